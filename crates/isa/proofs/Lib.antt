@@ -1,0 +1,4 @@
+pub mod Bools
+pub mod LowBits
+pub mod Machine
+pub mod Tables

@@ -1,0 +1,11 @@
+-- `isa::rs1_of` meets its contract. Assumes nothing.
+use borrow.Author.Needs.{needs}
+use Rattle.isa.specs.Short.{nibble}
+use Rattle.isa.proofs.short.rs1_of.Statement.{statement}
+use Rattle.isa.proofs.short.rs1_of.Tie as tie
+
+pub rs1-of-spec : {M : Type 1} → statement M
+unfolding nibble
+rs1-of-spec = tie.close (tie.spec
+    (λ c. search needs)
+    (λ c. search needs))

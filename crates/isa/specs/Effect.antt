@@ -1,0 +1,189 @@
+-- What an instruction at address p does with operand values x and y: document 01's Execute, said once.
+use Prim.Native.Nat.{ℕ}
+use lib.Dec.{eqb}
+use mathlib.Core.Bool.{Bool, cond, false, not, true}
+use Rattle.isa.specs.Names.{Add, Addi, And, Beq, Bne, Cpuid, DecNormal, DecShort, Decoded, Div, Divu, Effect}
+use Rattle.isa.specs.Names.{Exception, Halt, IllegalInstruction, Instruction, Iret, Jal, Jalr, Jalrs, Jals}
+use Rattle.isa.specs.Names.{Jmp, Jmps, Jr, Jrs, Keep, Ld, Ldb, Ldh, Ldih, Ldil, Mfsr, Mod, Mode, Mtsr, Mul}
+use Rattle.isa.specs.Names.{Mulh, NewMode, Next, NoException, NoMtsr, Nop, Normal, Or, PrivilegedInstruction}
+use Rattle.isa.specs.Names.{Redirect, Short, ShortInstruction, Sla, Sll, Slt, Sltu, Sra, Srl, St, Stb, Sth}
+use Rattle.isa.specs.Names.{Sub, Syscall, SyscallException, To, ToMode, Unknown, Write, Xor, sAdd, sAddi}
+use Rattle.isa.specs.Names.{sBnz, sBz, sJal, sJr, sLd, sLdi, sMov, sRet, sSt, sUnknown}
+use Rattle.isa.specs.Operands.{writes}
+use Rattle.word.specs.Words.{add32, and32, div32, divu32, ldih32, ldil32, mod32, mul32, mulh32, offset32, or32}
+use Rattle.word.specs.Words.{sll32, slt32, sltu32, sra32, srl32, sub32, xor32}
+
+-- the size of an instruction in bytes, by its mode
+unfoldable pub size : Mode → ℕ
+size Normal = 4
+size Short = 2
+
+-- the address after the instruction at p
+unfoldable pub fall : ℕ → Mode → ℕ
+fall p m = add32 p (size m)
+
+-- an effect by its parts, none of which raises an exception or writes a special register
+unfoldable pub calm : ℕ → Bool → Bool → Redirect → NewMode → Bool → Bool → Bool → Effect
+calm v w a g n h i c = record {
+  «alu_result» = v;
+  «mem_addr» = 0;
+  «store_value» = 0;
+  «mem_size» = 0;
+  «is_mem_read» = false;
+  writes = w;
+  «always_writes» = a;
+  redirect = g;
+  «branch_new_mode» = n;
+  halt = h;
+  iret = i;
+  cpuid = c;
+  exception = NoException;
+  mtsr = NoMtsr;
+}
+
+-- nothing
+unfoldable pub nothing : Effect
+nothing = calm 0 false false Next Keep false false false
+
+-- the destination gets v
+unfoldable pub gives : ℕ → Effect
+gives v = calm v true false Next Keep false false false
+
+-- a load (l) of width w at address a, or a store of v there
+unfoldable pub reaches : Bool → ℕ → ℕ → ℕ → Effect
+reaches l w a v = record {
+  «alu_result» = 0;
+  «mem_addr» = a;
+  «store_value» = v;
+  «mem_size» = w;
+  «is_mem_read» = l;
+  writes = l;
+  «always_writes» = l;
+  redirect = Next;
+  «branch_new_mode» = Keep;
+  halt = false;
+  iret = false;
+  cpuid = false;
+  exception = NoException;
+  mtsr = NoMtsr;
+}
+
+-- a conditional branch to q, where c holds
+unfoldable pub branches : Bool → ℕ → Mode → Effect
+branches c q m = calm 0 false false (cond c (To q m) Next) Keep false false false
+
+-- a jump to q in mode m; n: the mode that it changes to
+unfoldable pub jumps : ℕ → Mode → NewMode → Effect
+jumps q m n = calm 0 false false (To q m) n false false false
+
+-- a jump that leaves the address v of the next instruction
+unfoldable pub links : ℕ → ℕ → Mode → NewMode → Effect
+links v q m n = calm v true true (To q m) n false false false
+
+-- an exception
+unfoldable pub raises : Exception → Effect
+raises e = record {
+  «alu_result» = 0;
+  «mem_addr» = 0;
+  «store_value» = 0;
+  «mem_size» = 0;
+  «is_mem_read» = false;
+  writes = false;
+  «always_writes» = false;
+  redirect = Next;
+  «branch_new_mode» = Keep;
+  halt = false;
+  iret = false;
+  cpuid = false;
+  exception = e;
+  mtsr = NoMtsr;
+}
+
+-- MTSR: word v for special register sr
+unfoldable pub sets : ℕ → ℕ → Effect
+sets sr v = record {
+  «alu_result» = 0;
+  «mem_addr» = 0;
+  «store_value» = 0;
+  «mem_size» = 0;
+  «is_mem_read» = false;
+  writes = false;
+  «always_writes» = false;
+  redirect = Next;
+  «branch_new_mode» = Keep;
+  halt = false;
+  iret = false;
+  cpuid = false;
+  exception = NoException;
+  mtsr = Write sr v;
+}
+
+-- in user mode a privileged instruction raises an exception
+unfoldable pub privileged : Bool → Effect → Effect
+privileged u e = cond u (raises PrivilegedInstruction) e
+
+-- n: the address after the instruction. MFSR is refused before it executes; its row is never reached.
+unfoldable pub effectN : Bool → Instruction → ℕ → ℕ → ℕ → Effect
+effectN u Nop n x y = nothing
+effectN u (Ld rd base offset) n x y = reaches true 4 (offset32 x offset) 0
+effectN u (St rd base offset) n x y = reaches false 4 (offset32 x offset) y
+effectN u (Add rd rs1 rs2) n x y = gives (add32 x y)
+effectN u (Addi rd rs1 imm) n x y = gives (offset32 x imm)
+effectN u (Sub rd rs1 rs2) n x y = gives (sub32 x y)
+effectN u (Slt rd rs1 rs2) n x y = gives (slt32 x y)
+effectN u (Beq rs1 rs2 offset) n x y = branches (eqb x y) (offset32 n offset) Normal
+effectN u (Bne rs1 rs2 offset) n x y = branches (not (eqb x y)) (offset32 n offset) Normal
+effectN u (Jmp offset) n x y = jumps (offset32 n offset) Normal Keep
+effectN u (Jal offset) n x y = links n (offset32 n offset) Normal Keep
+effectN u (Jr rd) n x y = jumps x Normal Keep
+effectN u (Jmps offset) n x y = jumps (offset32 n offset) Short (ToMode Short)
+effectN u (Jals offset) n x y = links n (offset32 n offset) Short (ToMode Short)
+effectN u (Jrs rd) n x y = jumps x Short (ToMode Short)
+effectN u (Jalr rd) n x y = links n x Normal Keep
+effectN u (Jalrs rd) n x y = links n x Short (ToMode Short)
+effectN u Cpuid n x y = calm 0 false false Next Keep false false true
+effectN u Halt n x y = privileged u (calm 0 false false Next Keep true false false)
+effectN u (And rd rs1 rs2) n x y = gives (and32 x y)
+effectN u (Or rd rs1 rs2) n x y = gives (or32 x y)
+effectN u (Xor rd rs1 rs2) n x y = gives (xor32 x y)
+effectN u (Sll rd rs1 rs2) n x y = gives (sll32 x y)
+effectN u (Srl rd rs1 rs2) n x y = gives (srl32 x y)
+effectN u (Sla rd rs1 rs2) n x y = gives (sll32 x y)
+effectN u (Sra rd rs1 rs2) n x y = gives (sra32 x y)
+effectN u (Sltu rd rs1 rs2) n x y = gives (sltu32 x y)
+effectN u (Mul rd rs1 rs2) n x y = gives (mul32 x y)
+effectN u (Div rd rs1 rs2) n x y = gives (div32 x y)
+effectN u (Mod rd rs1 rs2) n x y = gives (mod32 x y)
+effectN u (Mulh rd rs1 rs2) n x y = gives (mulh32 x y)
+effectN u (Divu rd rs1 rs2) n x y = gives (divu32 x y)
+effectN u (Ldb rd base offset) n x y = reaches true 1 (offset32 x offset) 0
+effectN u (Ldh rd base offset) n x y = reaches true 2 (offset32 x offset) 0
+effectN u (Stb rd base offset) n x y = reaches false 1 (offset32 x offset) y
+effectN u (Sth rd base offset) n x y = reaches false 2 (offset32 x offset) y
+effectN u (Ldil rd imm) n x y = gives (ldil32 x imm)
+effectN u (Ldih rd imm) n x y = gives (ldih32 x imm)
+effectN u (Unknown high low) n x y = raises IllegalInstruction
+effectN u Iret n x y = privileged u (calm 0 false false Next Keep false true false)
+effectN u (Syscall imm) n x y = raises (SyscallException imm)
+effectN u (Mfsr rd sr) n x y = privileged u (raises IllegalInstruction)
+effectN u (Mtsr rs sr) n x y = privileged u (sets sr x)
+
+-- RET goes to the next short address in Normal mode.
+unfoldable pub effectS : ShortInstruction → ℕ → ℕ → ℕ → Effect
+effectS (sMov rd rs1) n x y = gives x
+effectS (sAdd rd rs1 rs2) n x y = gives (add32 x y)
+effectS (sAddi rd imm) n x y = gives (offset32 x imm)
+effectS (sLd rd rs1) n x y = reaches true 4 x 0
+effectS (sSt rd rs1) n x y = reaches false 4 x y
+effectS (sBz rd offset) n x y = branches (eqb x 0) (offset32 n offset) Short
+effectS (sBnz rd offset) n x y = branches (not (eqb x 0)) (offset32 n offset) Short
+effectS (sJr rd) n x y = jumps x Short Keep
+effectS (sJal offset) n x y = links n (offset32 n offset) Short Keep
+effectS (sLdi rd imm) n x y = gives imm
+effectS sRet n x y = jumps n Normal (ToMode Normal)
+effectS (sUnknown h) n x y = raises IllegalInstruction
+
+-- u: in user mode; p: the instruction's address
+unfoldable pub effectOf : Bool → Decoded → ℕ → ℕ → ℕ → Effect
+effectOf u (DecNormal i) p x y = effectN u i (fall p Normal) x y
+effectOf u (DecShort i) p x y = effectS i (fall p Short) x y

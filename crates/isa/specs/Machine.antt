@@ -1,0 +1,112 @@
+-- The one-at-a-time machine: one step does the instruction at its address and mode.
+use Prim.Native.Nat.{suc, zero, ℕ}
+use mathlib.Core.Bool.{Bool, _&&_, _||_, cond, false, not, true}
+use mathlib.Core.List.{List, [], _++_, _∷_}
+use Rattle.isa.specs.Effect.{effectOf, fall}
+use Rattle.isa.specs.Names.{Decoded, Dest, Effect, Load, Mode, NoDest, Request, Store}
+use Rattle.isa.specs.Operands.{operandsOf}
+use Rattle.isa.specs.Redirects.{isException, isMtsr, modeOr, targetOr}
+use Rattle.isa.specs.Registers.{readReg, writeCpuid, writeReg}
+use Rattle.word.specs.Words.{cut32}
+
+-- the request of a load (l) or a store (s): address, width, and for a store the word cut to the width
+unfoldable pub requestOf : Bool → Bool → ℕ → ℕ → ℕ → List Request
+requestOf true s a w v = Load a w ∷ []
+requestOf false true a w v = Store a w (cut32 w v) ∷ []
+requestOf false false a w v = []
+
+-- what the machine is given: the instruction of each address and mode, short ones decoded; the user flag, the
+-- feature word, and what a load of a width makes of its answer (the answer whole, in the accuracy rule)
+pub record Program : Type 0 where
+  pub instruction : ℕ → Mode → Decoded
+  pub user : Bool
+  pub features : ℕ
+  pub take : ℕ → ℕ → ℕ
+
+-- registers, address, mode, answers left, requests made
+pub record Arch : Type 0 where
+  pub reg : List ℕ
+  pub pc : ℕ
+  pub mode : Mode
+  pub answers : List ℕ
+  pub requests : List Request
+
+unfoldable pub first : List ℕ → ℕ
+first [] = 0
+first (x ∷ xs) = x
+
+unfoldable pub rest : List ℕ → List ℕ
+rest [] = []
+rest (x ∷ xs) = xs
+
+unfoldable pub isEmpty : List ℕ → Bool
+isEmpty [] = true
+isEmpty (x ∷ xs) = false
+
+-- the instruction at the machine's address and mode
+unfoldable pub instructionAt : Program → Arch → Decoded
+instructionAt g w = g .instruction (w .pc) (w .mode)
+
+-- what instruction i does there, with operands from the registers
+unfoldable pub effectAt : Program → Decoded → Arch → Effect
+effectAt g i w =
+    effectOf (g .user) i (w .pc) (readReg (w .reg) ((operandsOf i) .«src_a»))
+    (readReg (w .reg) ((operandsOf i) .«src_b»))
+
+-- the result: of a load, what it makes of the next answer
+unfoldable pub valueAt : Program → Decoded → Arch → ℕ
+valueAt g i w =
+    cond ((operandsOf i) .«is_load») (g .take ((effectAt g i w) .«mem_size») (first (w .answers)))
+    ((effectAt g i w) .«alu_result»)
+
+-- the destination, where the instruction writes one
+unfoldable pub destOf : Effect → Dest → Dest
+destOf e d = cond (e .writes) d NoDest
+
+-- instruction i done
+unfoldable pub stepBy : Program → Decoded → Arch → Arch
+stepBy g i w = record {
+  reg =
+      writeReg (destOf (effectAt g i w) ((operandsOf i) .dest)) (valueAt g i w)
+      (writeCpuid ((effectAt g i w) .cpuid) (g .features) (w .reg));
+  pc = targetOr ((effectAt g i w) .redirect) (fall (w .pc) (w .mode));
+  mode = modeOr ((effectAt g i w) .redirect) (w .mode);
+  answers = cond ((operandsOf i) .«is_load») (rest (w .answers)) (w .answers);
+  requests =
+      w .requests
+      ++ requestOf ((operandsOf i) .«is_load») ((operandsOf i) .«is_store») ((effectAt g i w) .«mem_addr»)
+      ((effectAt g i w) .«mem_size») ((effectAt g i w) .«store_value»);
+}
+
+unfoldable pub step : Program → Arch → Arch
+step g w = stepBy g (instructionAt g w) w
+
+-- an instruction that raises an exception or is MTSR or IRET
+unfoldable pub isBarred : Effect → Bool
+isBarred e = isException (e .exception) || (isMtsr (e .mtsr) || e .iret)
+
+-- an instruction that stops the machine undone: a barred one, or a load with no answer left
+unfoldable pub stopsAt : Program → Decoded → Arch → Bool
+stopsAt g i w = isBarred (effectAt g i w) || ((operandsOf i) .«is_load» && isEmpty (w .answers))
+
+-- the machine: its state, whether it runs, and how many instructions it has done
+pub record Machine : Type 0 where
+  pub arch : Arch
+  pub runs : Bool
+  pub done : ℕ
+
+-- HALT is done and stops it; stopped, it does nothing more
+unfoldable pub machineBy : Program → Decoded → Machine → Machine
+machineBy g i m =
+    cond (m .runs)
+    (cond (stopsAt g i (m .arch)) (record { arch = m .arch; runs = false; done = m .done })
+    (record { arch = stepBy g i (m .arch); runs = not ((effectAt g i (m .arch)) .halt); done = suc (m .done) }))
+    m
+
+unfoldable pub machineStep : Program → Machine → Machine
+machineStep g m = machineBy g (instructionAt g (m .arch)) m
+
+-- the machine after n steps from w
+unfoldable pub machine : Program → Arch → ℕ → Machine
+machine g w zero = record { arch = w; runs = true; done = 0 }
+machine g w (suc n) = machineStep g (machine g w n)

@@ -1,0 +1,31 @@
+-- The 32 registers, as a list. R0 reads as 0.
+use Prim.Native.Nat.{ℕ}
+use lib.Dec.{eqb}
+use lib.ListN.{getD, set}
+use mathlib.Core.Bool.{Bool, cond, false, true}
+use mathlib.Core.List.{List}
+use Rattle.isa.specs.Names.{Dest, NoDest, Reg}
+
+-- the value of register r
+unfoldable pub readReg : List ℕ → ℕ → ℕ
+readReg rs r = cond (eqb r 0) 0 (getD rs r 0)
+
+-- a destination gets the word v, unless it is R0
+unfoldable pub writeReg : Dest → ℕ → List ℕ → List ℕ
+writeReg NoDest v rs = rs
+writeReg (Reg d) v rs = cond (eqb d 0) rs (set rs d v)
+
+-- CPUID writes R1, then R2: the processor's name, 53524332, and the feature word
+unfoldable pub writeCpuid : Bool → ℕ → List ℕ → List ℕ
+writeCpuid false features rs = rs
+writeCpuid true features rs = set (set rs 1 0x53524332) 2 features
+
+-- whether a destination is register r
+unfoldable pub isDest : Dest → ℕ → Bool
+isDest NoDest r = false
+isDest (Reg d) r = eqb d r
+
+-- whether a destination is named
+unfoldable pub isNamed : Dest → Bool
+isNamed NoDest = false
+isNamed (Reg d) = true

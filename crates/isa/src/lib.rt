@@ -1,0 +1,182 @@
+// The instructions of the SRC32, what each names and what it does, said once for every machine.
+mod doing;
+mod encoding;
+mod naming;
+mod short;
+
+// The mode of an instruction: 4 bytes long, or 2.
+pub enum Mode {
+    Normal,
+    Short,
+}
+
+// A Normal instruction. Unknown holds the high and the low half of its word.
+pub enum Instruction {
+    Nop,
+    Ld { rd: u8, base: u8, offset: i16 },
+    St { rd: u8, base: u8, offset: i16 },
+    Add { rd: u8, rs1: u8, rs2: u8 },
+    Addi { rd: u8, rs1: u8, imm: i16 },
+    Sub { rd: u8, rs1: u8, rs2: u8 },
+    Slt { rd: u8, rs1: u8, rs2: u8 },
+    Beq { rs1: u8, rs2: u8, offset: i16 },
+    Bne { rs1: u8, rs2: u8, offset: i16 },
+    Jmp { offset: i16 },
+    Jal { offset: i16 },
+    Jr { rd: u8 },
+    Jmps { offset: i16 },
+    Jals { offset: i16 },
+    Jrs { rd: u8 },
+    Jalr { rd: u8 },
+    Jalrs { rd: u8 },
+    Cpuid,
+    Halt,
+    And { rd: u8, rs1: u8, rs2: u8 },
+    Or { rd: u8, rs1: u8, rs2: u8 },
+    Xor { rd: u8, rs1: u8, rs2: u8 },
+    Sll { rd: u8, rs1: u8, rs2: u8 },
+    Srl { rd: u8, rs1: u8, rs2: u8 },
+    Sla { rd: u8, rs1: u8, rs2: u8 },
+    Sra { rd: u8, rs1: u8, rs2: u8 },
+    Sltu { rd: u8, rs1: u8, rs2: u8 },
+    Mul { rd: u8, rs1: u8, rs2: u8 },
+    Div { rd: u8, rs1: u8, rs2: u8 },
+    Mod { rd: u8, rs1: u8, rs2: u8 },
+    Mulh { rd: u8, rs1: u8, rs2: u8 },
+    Divu { rd: u8, rs1: u8, rs2: u8 },
+    Ldb { rd: u8, base: u8, offset: i16 },
+    Ldh { rd: u8, base: u8, offset: i16 },
+    Stb { rd: u8, base: u8, offset: i16 },
+    Sth { rd: u8, base: u8, offset: i16 },
+    Ldil { rd: u8, imm: u16 },
+    Ldih { rd: u8, imm: u16 },
+    Unknown(u16, u16),
+    Iret,
+    Syscall { imm: u16 },
+    Mfsr { rd: u8, sr: u16 },
+    Mtsr { rs: u8, sr: u16 },
+}
+
+impl Instruction {
+    pub const SIZE: u32 = 4;
+
+    pub const MUL_LATENCY: u8 = 3;
+
+    pub const DIV_LATENCY: u8 = 16;
+}
+
+// A Short instruction. Its register numbers are those of the halfword: 15 means R31.
+pub enum ShortInstruction {
+    Mov { rd: u8, rs1: u8 },
+    Add { rd: u8, rs1: u8, rs2: u8 },
+    Addi { rd: u8, imm: i8 },
+    Ld { rd: u8, rs1: u8 },
+    St { rd: u8, rs1: u8 },
+    Bz { rd: u8, offset: i8 },
+    Bnz { rd: u8, offset: i8 },
+    Jr { rd: u8 },
+    Jal { offset: i16 },
+    Ldi { rd: u8, imm: u8 },
+    Ret,
+    Unknown(u16),
+}
+
+impl ShortInstruction {
+    pub const SIZE: u32 = 2;
+}
+
+// What a fetch brings: a Normal instruction, decoded already, or 16 bits.
+pub enum RawInstr {
+    Normal(Instruction),
+    Short(u16),
+}
+
+// A decoded instruction.
+pub enum Decoded {
+    Normal(Instruction),
+    Short(ShortInstruction),
+}
+
+// The register that an instruction names as its destination.
+pub enum Dest {
+    None,
+    Reg(u8),
+}
+
+// Where an instruction goes: on to the next address, or to a target and its mode.
+pub enum Redirect {
+    Next,
+    To(u32, Mode),
+}
+
+// The mode that a jump changes to at its retirement.
+pub enum NewMode {
+    Keep,
+    To(Mode),
+}
+
+// What a load or store asks of the memory: address, width in bytes, and a store's word cut to the width.
+pub enum Request {
+    None,
+    Load { addr: u32, width: u8 },
+    Store { addr: u32, width: u8, word: u32 },
+}
+
+// An exception that an instruction raises.
+pub enum Exception {
+    None,
+    PrivilegedInstruction,
+    IllegalInstruction,
+    Syscall(u16),
+}
+
+// MTSR's special register number and word.
+pub enum Mtsr {
+    None,
+    Write(u16, u32),
+}
+
+// What an instruction names: its two sources (R0 where it has none), how many, its destination,
+// whether it loads or stores, its latency (0: none), a conditional branch's offset as a word,
+// and whether it is MFSR.
+pub struct Operands {
+    pub src_a: u8,
+    pub src_b: u8,
+    pub n_srcs: u8,
+    pub dest: Dest,
+    pub is_load: bool,
+    pub is_store: bool,
+    pub latency: u8,
+    pub is_branch: bool,
+    pub offset: u32,
+    pub is_mfsr: bool,
+}
+
+// What an instruction does with two operand values. `writes`: its destination gets the result;
+// `always_writes`: it asks for the write even where no destination is named.
+pub struct Effect {
+    pub alu_result: u32,
+    pub mem_addr: u32,
+    pub store_value: u32,
+    pub mem_size: u8,
+    pub is_mem_read: bool,
+    pub writes: bool,
+    pub always_writes: bool,
+    pub redirect: Redirect,
+    pub branch_new_mode: NewMode,
+    pub halt: bool,
+    pub iret: bool,
+    pub cpuid: bool,
+    pub exception: Exception,
+    pub mtsr: Mtsr,
+}
+
+// The numbers by which the code works.
+pub struct Fields {
+    pub command: u8,
+    pub rd: u8,
+    pub ra: u8,
+    pub rb: u8,
+    pub number: u16,
+    pub imm: u32,
+}

@@ -1,0 +1,8 @@
+-- The starred rows of arithmetic, by computation. Assumes nothing.
+use mathlib.Core.Path.{refl}
+use Rattle.word.specs.Words.{div32, mod32, mulh32, sra32}
+use Rattle.word.specs.Rows.{Rows}
+
+pub rows : Rows
+unfolding div32 mod32 mulh32 sra32
+rows = record { div = refl; «mod» = refl; mulh = refl; sra = refl }

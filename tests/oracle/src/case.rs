@@ -1,0 +1,29 @@
+//! Cases: what the other program is asked, one to a line.
+
+mod kind;
+mod names;
+mod numbers;
+
+pub use kind::Kind;
+pub use names::result_names;
+
+use crate::rows::{Answer, Begin, Decoded, IdEx, IfId, Offer, State};
+
+/// One question.
+#[derive(Debug, Clone, Copy, PartialEq, Eq)]
+#[allow(clippy::large_enum_variant)]
+pub enum Case {
+    Tick(State, Offer, Answer),
+    Ask(State),
+    Forwarded(State, u32),
+    Execute(State, IdEx),
+    Decode(State, IfId),
+    Sources(IfId),
+    MulDiv(Decoded),
+    Hazard(IdEx, u32, u32),
+    Retire(State),
+    Start(Begin),
+    ListStart(Begin),
+    ListTick(Offer, Answer),
+    ListShow,
+}

@@ -1,0 +1,52 @@
+//! The kinds of cases that can be asked for by name.
+
+/// What is generated and compared in one run.
+#[derive(Debug, Clone, Copy, PartialEq, Eq)]
+pub enum Kind {
+    Tick,
+    Ask,
+    Forwarded,
+    Execute,
+    Decode,
+    Sources,
+    MulDiv,
+    Hazard,
+    Retire,
+    Start,
+    Lists,
+}
+
+/// Every kind with its name.
+const NAMES: [(Kind, &str); 11] = [
+    (Kind::Tick, "tick"),
+    (Kind::Ask, "ask"),
+    (Kind::Forwarded, "forwarded"),
+    (Kind::Execute, "execute"),
+    (Kind::Decode, "decode"),
+    (Kind::Sources, "sources"),
+    (Kind::MulDiv, "muldiv"),
+    (Kind::Hazard, "hazard"),
+    (Kind::Retire, "retire"),
+    (Kind::Start, "start"),
+    (Kind::Lists, "lists"),
+];
+
+impl Kind {
+    /// Gives every kind.
+    pub fn all() -> impl Iterator<Item = Kind> + Clone {
+        NAMES.iter().map(|&(kind, _)| kind)
+    }
+
+    /// Finds a kind by its name.
+    pub fn named(name: &str) -> Option<Kind> {
+        NAMES
+            .iter()
+            .find(|(_, known)| *known == name)
+            .map(|&(kind, _)| kind)
+    }
+
+    /// Gives the name of a kind.
+    pub fn name(self) -> &'static str {
+        NAMES[self as usize].1
+    }
+}

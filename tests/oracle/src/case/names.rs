@@ -1,0 +1,30 @@
+//! Names of the numbers in a result line.
+
+use super::Case;
+use crate::row::Row;
+use crate::rows::{ExMem, IdEx, Redirect, Seen, State};
+
+/// Gives the names of the numbers that a case's result line holds.
+pub fn result_names(case: &Case) -> Vec<String> {
+    let mut names = Vec::new();
+    if !matches!(case, Case::Start(_) | Case::ListShow) {
+        names.push("code".to_string());
+    }
+    match case {
+        Case::Tick(..) | Case::Retire(_) | Case::Start(_) | Case::ListShow => {
+            State::names("", &mut names);
+        }
+        Case::Ask(_) | Case::ListTick(..) => Seen::names("", &mut names),
+        Case::Forwarded(..) => names.push("value".to_string()),
+        Case::Execute(..) => {
+            ExMem::names("ex_mem", &mut names);
+            Redirect::names("", &mut names);
+        }
+        Case::Decode(..) => IdEx::names("id_ex", &mut names),
+        Case::Sources(_) => names.extend(["src0", "src1"].map(String::from)),
+        Case::MulDiv(_) => names.push("latency".to_string()),
+        Case::Hazard(..) => names.push("hazard".to_string()),
+        Case::ListStart(_) => {}
+    }
+    names
+}

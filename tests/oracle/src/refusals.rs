@@ -1,0 +1,143 @@
+//! Document 01's refusals 11, 12, 13 and 1 to 4, read by themselves; the original refuses nothing.
+
+use crate::cpu_pipeline::harness::Numbers;
+use crate::rows::{
+    Answer, Decoded, ExMem, IdEx, IfId, LOAD, MemWb, NORMAL, Offer, Raw, SHORT, Seen, State,
+};
+
+/// Accepted.
+pub const NONE: u32 = 0;
+/// The numbers that document 01 gives the refusals.
+pub const NORMAL_REGISTER: u32 = 1;
+pub const OFFERED_MFSR: u32 = 2;
+pub const UNWANTED_OFFER: u32 = 3;
+pub const UNWANTED_ANSWER: u32 = 4;
+pub const OUT_OF_BOUNDS: u32 = 11;
+pub const NOT_RETIRABLE: u32 = 12;
+pub const COUNTER_FULL: u32 = 13;
+
+/// Position of MFSR in the enum of Normal instructions.
+pub const MFSR: u32 = 0x29;
+
+/// Tells the refusal by where the machine stands, or none.
+pub fn standing(state: &State) -> u32 {
+    if state_breaks(state) {
+        OUT_OF_BOUNDS
+    } else if state.running && holds_what_never_retires(&state.mem_wb) {
+        NOT_RETIRABLE
+    } else if a_counter_is_full(state) {
+        COUNTER_FULL
+    } else {
+        NONE
+    }
+}
+
+/// Tells the refusal by what is offered to a tick that asks for this, or none.
+pub fn offered(offer: &Offer, answer: &Answer, seen: &Seen) -> u32 {
+    match offer {
+        Offer::Normal(instruction) if names_a_register_above_31(instruction) => NORMAL_REGISTER,
+        Offer::Normal(instruction) if instruction.variant == MFSR => OFFERED_MFSR,
+        _ if !is_wanted(offer, seen) => UNWANTED_OFFER,
+        _ if answer.given != (seen.request == LOAD) => UNWANTED_ANSWER,
+        _ => NONE,
+    }
+}
+
+/// Tells whether a tick that asks for this wants an offer of this kind.
+fn is_wanted(offer: &Offer, seen: &Seen) -> bool {
+    match offer {
+        Offer::Nothing => !seen.fetch,
+        Offer::Normal(_) => seen.fetch && seen.mode == NORMAL,
+        Offer::Short(_) => seen.fetch && seen.mode == SHORT,
+    }
+}
+
+/// Tells whether some latch or the wait of a state is out of bounds.
+pub fn state_breaks(state: &State) -> bool {
+    if_id_breaks(&state.if_id)
+        || id_ex_breaks(&state.id_ex)
+        || ex_mem_breaks(&state.ex_mem)
+        || destination_breaks(state.mem_wb.dest)
+        || state.ex_cycles_left > 15
+}
+
+/// Tells whether a fetched instruction is out of bounds, in a valid latch or not.
+pub fn if_id_breaks(latch: &IfId) -> bool {
+    match &latch.raw {
+        Raw::Normal(instruction) => instruction_breaks(instruction),
+        Raw::Short(_) => false,
+    }
+}
+
+/// Tells whether a decoded latch is out of bounds, unused sources included.
+pub fn id_ex_breaks(latch: &IdEx) -> bool {
+    decoded_breaks(&latch.decoded)
+        || register_breaks(latch.src0)
+        || register_breaks(latch.src1)
+        || destination_breaks(latch.dest)
+        || latch.n_srcs > 2
+}
+
+/// Tells whether an executed latch is out of bounds.
+pub fn ex_mem_breaks(latch: &ExMem) -> bool {
+    decoded_breaks(&latch.decoded)
+        || destination_breaks(latch.dest)
+        || ![0, 1, 2, 4].contains(&latch.mem_size)
+}
+
+/// Tells whether a decoded instruction is out of bounds; the numbers of a short one are not tested.
+pub fn decoded_breaks(decoded: &Decoded) -> bool {
+    match decoded {
+        Decoded::Normal(instruction) => instruction_breaks(instruction),
+        Decoded::Short(_) => false,
+    }
+}
+
+/// Tells whether a register number is out of bounds.
+pub fn register_breaks(register: u32) -> bool {
+    register > 31
+}
+
+/// Tells whether a coded destination, none or register plus one, is out of bounds.
+fn destination_breaks(dest: u32) -> bool {
+    dest > 0 && register_breaks(dest - 1)
+}
+
+/// Tells whether a Normal instruction may stand in no latch.
+fn instruction_breaks(instruction: &Numbers) -> bool {
+    instruction.variant == MFSR || names_a_register_above_31(instruction)
+}
+
+/// Tells whether a Normal instruction names a register above 31.
+fn names_a_register_above_31(instruction: &Numbers) -> bool {
+    instruction.fields[..register_count(instruction.variant)]
+        .iter()
+        .any(|&register| register_breaks(register))
+}
+
+/// Says how many registers a kind of Normal instruction names; they are its first fields.
+pub fn register_count(variant: u32) -> usize {
+    match variant {
+        0x00 | 0x09 | 0x0a | 0x0c | 0x0d | 0x11 | 0x12 | 0x26..=0x28 => 0,
+        0x0b | 0x0e..=0x10 | 0x24 | 0x25 | 0x29 | 0x2a => 1,
+        0x01 | 0x02 | 0x04 | 0x07 | 0x08 | 0x20..=0x23 => 2,
+        _ => 3,
+    }
+}
+
+/// Tells whether the oldest latch holds an exception, MTSR or IRET.
+pub fn holds_what_never_retires(latch: &MemWb) -> bool {
+    latch.valid && (latch.exception != 0 || latch.mtsr[0] != 0 || latch.iret)
+}
+
+/// Tells whether one of the five counters is at its top.
+fn a_counter_is_full(state: &State) -> bool {
+    [
+        state.cycles,
+        state.running_cycles,
+        state.instructions_executed,
+        state.stall_cycles,
+        state.flush_events,
+    ]
+    .contains(&u64::MAX)
+}
