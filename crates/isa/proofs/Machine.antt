@@ -60,7 +60,8 @@ pub did-all : (g : Program) (w : Arch) (N : ℕ) → (machine g w N) .done ≡ N
     ≡ n
 did-all g w zero e n l = let z : 0 ≡ n = omega arith in subst (λ (x : ℕ). (machine g w x) .done ≡ x) z e
 did-all g w (suc N) e n l = split (ltb N n)
-    (λ q. let h = ltb-true N n q in let z : suc N ≡ n = omega arith in subst (λ (x : ℕ). (machine g w x) .done ≡ x) z
+    (λ q. let h = ltb-true N n q in let z : suc N ≡ n = omega arith in subst (λ (x : ℕ). (machine g w x) .done ≡ x)
+    z
     e)
     (λ q. let h = ltb-false N n q in did-all g w N ((did-last g w N e) .did) n h)
 

@@ -59,9 +59,13 @@ valueAt g i w =
     cond ((operandsOf i) .«is_load») (g .take ((effectAt g i w) .«mem_size») (first (w .answers)))
     ((effectAt g i w) .«alu_result»)
 
+-- a destination, where it is written
+unfoldable pub destWhere : Bool → Dest → Dest
+destWhere w d = cond w d NoDest
+
 -- the destination, where the instruction writes one
 unfoldable pub destOf : Effect → Dest → Dest
-destOf e d = cond (e .writes) d NoDest
+destOf e d = destWhere (e .writes) d
 
 -- instruction i done
 unfoldable pub stepBy : Program → Decoded → Arch → Arch

@@ -1,19 +1,27 @@
 -- The 32 registers, as a list. R0 reads as 0.
 use Prim.Native.Nat.{ℕ}
-use lib.Dec.{eqb}
+use lib.Dec.{eqb, ltb}
 use lib.ListN.{getD, set}
-use mathlib.Core.Bool.{Bool, cond, false, true}
+use mathlib.Core.Bool.{Bool, _&&_, cond, false, true}
 use mathlib.Core.List.{List}
 use Rattle.isa.specs.Names.{Dest, NoDest, Reg}
 
+-- R1 to R31, the registers that can be written
+unfoldable pub isReg : ℕ → Bool
+isReg r = ltb 0 r && ltb r 32
+
 -- the value of register r
 unfoldable pub readReg : List ℕ → ℕ → ℕ
-readReg rs r = cond (eqb r 0) 0 (getD rs r 0)
+readReg rs r = cond (isReg r) (getD rs r 0) 0
+
+-- register d gets the word v, unless it is R0
+unfoldable pub putReg : ℕ → ℕ → List ℕ → List ℕ
+putReg d v rs = cond (isReg d) (set rs d v) rs
 
 -- a destination gets the word v, unless it is R0
 unfoldable pub writeReg : Dest → ℕ → List ℕ → List ℕ
 writeReg NoDest v rs = rs
-writeReg (Reg d) v rs = cond (eqb d 0) rs (set rs d v)
+writeReg (Reg d) v rs = putReg d v rs
 
 -- CPUID writes R1, then R2: the processor's name, 53524332, and the feature word
 unfoldable pub writeCpuid : Bool → ℕ → List ℕ → List ℕ

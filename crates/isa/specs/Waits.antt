@@ -3,7 +3,7 @@ use Prim.Native.Nat.{_-_, _^_, ℕ}
 use lib.Dec.{eqb, ltb}
 use mathlib.Core.Bool.{Bool, _&&_, _||_, cond, false, not}
 use Rattle.isa.specs.Effect.{fall}
-use Rattle.isa.specs.Names.{Decoded, Dest, Mode, Next, NoDest, Redirect, Reg, To}
+use Rattle.isa.specs.Names.{Decoded, Dest, Mode, Next, NoDest, Operands, Redirect, Reg, To}
 use Rattle.isa.specs.Operands.{operandsOf}
 use Rattle.word.specs.Words.{add32}
 
@@ -16,8 +16,11 @@ unfoldable pub isDiv : Decoded → Bool
 isDiv i = eqb ((operandsOf i) .latency) 16
 
 -- the ticks that an instruction waits in EX: one less than its latency
+unfoldable pub waitsBy : Operands → ℕ
+waitsBy o = o .latency - 1
+
 unfoldable pub waits : Decoded → ℕ
-waits i = (operandsOf i) .latency - 1
+waits i = waitsBy (operandsOf i)
 
 -- a destination other than R0 that is one of two sources
 unfoldable pub isUsed : Dest → ℕ → ℕ → Bool
@@ -34,7 +37,8 @@ unfoldable pub isNegative : ℕ → Bool
 isNegative w = not (ltb w (2 ^ 31))
 
 -- the prediction: a conditional branch with negative offset is taken, in the mode m of its latch; no other is
+unfoldable pub predictBy : Operands → ℕ → Mode → Redirect
+predictBy o p m = cond (o .«is_branch» && isNegative (o .offset)) (To (add32 (fall p m) (o .offset)) m) Next
+
 unfoldable pub predict : Decoded → ℕ → Mode → Redirect
-predict i p m =
-    cond ((operandsOf i) .«is_branch» && isNegative ((operandsOf i) .offset))
-    (To (add32 (fall p m) ((operandsOf i) .offset)) m) Next
+predict i p m = predictBy (operandsOf i) p m

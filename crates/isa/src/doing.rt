@@ -17,9 +17,9 @@ use crate::naming::gives_word;
 use crate::naming::is_link;
 use crate::naming::is_load;
 use crate::naming::is_store;
-use crate::naming::sel;
 use crate::naming::sel8;
 use crate::naming::within;
+use crate::registers::sel;
 
 fn wide(c: u8) -> u32
     ensures { λ r. ⌜ r ≡ c ⌝ }
@@ -89,7 +89,7 @@ fn mode_if(short: bool) -> Mode
     Mode::Normal
 }
 
-fn redirect_if(taken: bool, target: u32, mode: Mode) -> Redirect
+pub(crate) fn redirect_if(taken: bool, target: u32, mode: Mode) -> Redirect
     ensures { λ r. ⌜ r ≡ redirectIf taken target mode ⌝ }
 {
     if taken {

@@ -1,7 +1,9 @@
 // The instructions of the SRC32, what each names and what it does, said once for every machine.
+mod choices;
 mod doing;
 mod encoding;
 mod naming;
+pub mod registers;
 mod short;
 
 // The mode of an instruction: 4 bytes long, or 2.

@@ -9,19 +9,10 @@ use crate::Dest;
 use crate::Fields;
 use crate::Instruction;
 use crate::Operands;
+use crate::registers::sel;
 
 // One of two bytes.
 pub(crate) fn sel8(on: bool, a: u8, b: u8) -> u8
-    ensures { λ r. ⌜ r ≡ cond on a b ⌝ }
-{
-    if on {
-        return a;
-    }
-    b
-}
-
-// One of two words.
-pub(crate) fn sel(on: bool, a: u32, b: u32) -> u32
     ensures { λ r. ⌜ r ≡ cond on a b ⌝ }
 {
     if on {

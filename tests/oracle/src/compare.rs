@@ -19,7 +19,9 @@ pub fn run(program: &str, kind: Kind, count: u64, seed: u64) -> Result<bool> {
     let (sender, receiver) = channel();
     let feeder = thread::spawn(move || Feed::new(kind, seed).run(count, input, &sender));
     let mut report = Report::new(kind);
-    check(&receiver, &mut BufReader::new(output), &mut report)?;
+    if !check(&receiver, &mut BufReader::new(output), &mut report)? {
+        child.kill()?;
+    }
     let fed = feeder.join().expect("the feeding thread ends by itself");
     let status = child.wait()?;
     if !status.success() {
@@ -43,24 +45,28 @@ fn spawn(program: &str) -> Result<Child> {
         .spawn()
 }
 
-/// Reads one line for each expected one and reports where they differ.
+/// Reads the program's lines and reports where they differ, then tells whether it may go on.
 fn check(
     receiver: &Receiver<Vec<Expected>>,
     output: &mut impl BufRead,
     report: &mut Report,
-) -> Result<()> {
+) -> Result<bool> {
+    let mut waiting = Vec::new().into_iter();
     let mut got = Vec::new();
-    for expected in receiver.iter().flatten() {
-        got.clear();
-        if output.read_until(b'\n', &mut got)? == 0 {
-            report.note("the program's output ends too early".to_string());
-            return Ok(());
+    while output.read_until(b'\n', &mut got)? != 0 {
+        if waiting.len() == 0 {
+            waiting = receiver.try_recv().unwrap_or_default().into_iter();
         }
+        let Some(expected) = waiting.next() else {
+            report.note("the program answers more than it is asked".to_string());
+            return Ok(false);
+        };
         report.count(&expected, &got);
+        got.clear();
     }
-    got.clear();
-    if output.read_until(b'\n', &mut got)? != 0 {
-        report.note("the program's output goes on too long".to_string());
+    let missing = waiting.count() + receiver.iter().flatten().count();
+    if missing > 0 {
+        report.note(format!("the program leaves {missing} cases unanswered"));
     }
-    Ok(())
+    Ok(true)
 }

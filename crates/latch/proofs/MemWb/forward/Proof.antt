@@ -1,0 +1,16 @@
+-- `latch::MemWb::forward` meets its contract. Assumes nothing.
+use borrow.Author.Needs.{needs}
+use Rattle.latch.specs.Forwarding.{fromMemWb}
+use Rattle.latch.proofs.MemWb.forward.Statement.{statement}
+use Rattle.latch.proofs.MemWb.forward.Tie as tie
+
+pub forward-spec : {M : Type 1} → statement M
+unfolding fromMemWb
+forward-spec = tie.close (tie.spec
+    (λ c κs. search needs) (λ c κs. search needs) (λ c κs. search needs) (λ c κs. search needs)
+    (λ c. rw (
+      c .sel3 .ensures,
+      c .before .sel2 .ensures,
+      c .before .before .sel .ensures,
+      c .before .before .before .before .before .before .before .before .before .is .ensures,
+    )))

@@ -1,0 +1,11 @@
+-- `latch::memory::value_after` meets its contract. Assumes nothing.
+use Rattle.latch.specs.Memory.{valueAfter}
+use Rattle.latch.proofs.memory.value_after.Statement.{statement}
+use Rattle.latch.proofs.memory.value_after.Tie as tie
+
+pub value-after-spec : {M : Type 1} → statement M
+unfolding valueAfter
+value-after-spec = tie.close (tie.spec
+    (λ c. simp (c .if1 .taken))
+    (λ c. simp (c .if2 .taken, c .before .if1 .left))
+    (λ c. simp (c .if2 .left, c .before .if1 .left)))

@@ -1,0 +1,12 @@
+-- `latch::retire::retire_cpuid` meets its contract. Assumes nothing.
+use borrow.Author.Needs.{needs}
+use Rattle.latch.specs.Retire.{retireCpuid}
+use Rattle.latch.proofs.retire.retire_cpuid.Statement.{statement}
+use Rattle.latch.proofs.retire.retire_cpuid.Tie as tie
+
+pub retire-cpuid-spec : {M : Type 1} → statement M
+unfolding retireCpuid
+retire-cpuid-spec = tie.close (tie.spec
+    (λ c. search needs) (λ c. search needs) (λ c. search needs)
+    (λ c. simp (c .if1 .taken))
+    (λ c. simp (c .if1 .left)))

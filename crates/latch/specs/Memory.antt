@@ -1,0 +1,55 @@
+-- Memory: the request of EX/MEM, and the MEM/WB latch that it makes.
+use Prim.Native.Nat.{ℕ}
+use lib.Dec.{eqb}
+use mathlib.Core.Bool.{Bool, _&&_, cond, false, not, true}
+use mathlib.Core.List.{List, [], _∷_}
+use Rattle.isa.specs.Machine.{requestOf}
+use Rattle.latch.specs.Latches.{emptyMemWb}
+use Rattle.latch.specs.Names.{Dest, ExMem, MemWb, NoDest, NoRequest, Request}
+
+unfoldable pub loads : ExMem → Bool
+loads l = l .«is_load» && not (eqb (l .«mem_size») 0)
+
+unfoldable pub stores : ExMem → Bool
+stores l = l .«is_store» && not (eqb (l .«mem_size») 0)
+
+-- destination, write and value of a load, a store, or any other
+unfoldable pub destAfter : Bool → Bool → Dest → Dest
+destAfter l s d = cond l d (cond s NoDest d)
+
+unfoldable pub writesAfter : Bool → Bool → Bool → Bool
+writesAfter l s b = cond l true (cond s false b)
+
+unfoldable pub valueAfter : Bool → Bool → ℕ → ℕ → ℕ
+valueAfter l s answer result = cond l answer (cond s 0 result)
+
+-- a load takes the answer v whole and is written back; a store writes nothing back
+unfoldable pub memWbOf : ExMem → ℕ → MemWb
+memWbOf l v =
+    cond (l .valid)
+    (record {
+      valid = true;
+      pc = l .pc;
+      mode = l .mode;
+      dest = destAfter (loads l) (stores l) (l .dest);
+      writeback = writesAfter (loads l) (stores l) (l .writeback);
+      value = valueAfter (loads l) (stores l) v (l .«alu_result»);
+      halt = l .halt;
+      iret = l .iret;
+      cpuid = l .cpuid;
+      «branch_taken» = l .«branch_taken»;
+      «branch_target» = l .«branch_target»;
+      «branch_new_mode» = l .«branch_new_mode»;
+      exception = l .exception;
+      mtsr = l .mtsr;
+    })
+    emptyMemWb
+
+unfoldable pub requests : ExMem → List Request
+requests l =
+    cond (l .valid) (requestOf (loads l) (stores l) (l .«mem_addr») (l .«mem_size») (l .«store_value»)) []
+
+-- the request of a list that has at most one
+unfoldable pub requestIn : List Request → Request
+requestIn [] = NoRequest
+requestIn (q ∷ qs) = q

@@ -1,0 +1,40 @@
+// Forwarding out of one latch, over the value of an older place.
+ghost use mathlib.Core.Path.{_≡_};
+ghost use Rattle.latch.specs.Forwarding.{fromMemWb, fromExMem};
+use crate::ExMem;
+use crate::MemWb;
+use isa::registers::sel;
+
+impl MemWb {
+    // Its value for a register that it writes, then CPUID's words.
+    pub fn forward(self, features: u32, r: u8, v: u32) -> u32
+        ensures { λ a. ⌜ a ≡ fromMemWb self features r v ⌝ }
+    {
+        let dest = self.dest;
+        let writes = self.valid & (self.writeback & dest.is(r));
+        let name = self.valid & (self.cpuid & (1 == r));
+        let word = self.valid & (self.cpuid & (2 == r));
+        sel(
+            writes,
+            self.value,
+            sel(name, 0x53524332, sel(word, features, v)),
+        )
+    }
+}
+
+impl ExMem {
+    // The same, but never the result of a load.
+    pub fn forward(self, features: u32, r: u8, v: u32) -> u32
+        ensures { λ a. ⌜ a ≡ fromExMem self features r v ⌝ }
+    {
+        let dest = self.dest;
+        let writes = self.valid & (self.writeback & (!self.is_load & dest.is(r)));
+        let name = self.valid & (self.cpuid & (1 == r));
+        let word = self.valid & (self.cpuid & (2 == r));
+        sel(
+            writes,
+            self.alu_result,
+            sel(name, 0x53524332, sel(word, features, v)),
+        )
+    }
+}

@@ -1,0 +1,165 @@
+-- The state after a move. Every move counts one tick and one running tick.
+use Prim.Native.Nat.{_+_, _-_, ℕ}
+use mathlib.Core.Bool.{Bool, cond, false, true}
+use Rattle.isa.specs.Effect.{fall}
+use Rattle.isa.specs.Redirects.{isTo, modeOr, targetOr}
+use Rattle.isa.specs.Waits.{waits}
+use Rattle.latch.specs.Latches.{cleared, emptyExMem, emptyIdEx}
+use Rattle.latch.specs.Memory.{memWbOf}
+use Rattle.pipeline.specs.Execute.{executed}
+use Rattle.pipeline.specs.Fetch.{fetchPlace, fetched, nextIdEx}
+use Rattle.pipeline.specs.Move.{move}
+use Rattle.pipeline.specs.Names.{Move, PipelineCpu, RawInstr, beginWait, keepWaiting, loadUseStall, proceed}
+use Rattle.pipeline.specs.Names.{redirect}
+use Rattle.pipeline.specs.Retire.{retire}
+use Rattle.word.specs.Words.{bit}
+
+-- what a tick takes in: the load's answer, the instruction offered
+pub record Taken : Type 0 where
+  pub answer : ℕ
+  pub raw : RawInstr
+
+unfoldable pub advance : Move → PipelineCpu → Taken → PipelineCpu
+advance keepWaiting s x = record {
+  reg = s .reg;
+  «fetch_pc» = s .«fetch_pc»;
+  «fetch_mode» = s .«fetch_mode»;
+  «retire_pc» = s .«retire_pc»;
+  «retire_mode» = s .«retire_mode»;
+  running = s .running;
+  user = s .user;
+  features = s .features;
+  «if_id» = s .«if_id»;
+  «id_ex» = s .«id_ex»;
+  «ex_mem» = emptyExMem;
+  «mem_wb» = memWbOf (s .«ex_mem») (x .answer);
+  «ex_armed» = true;
+  «ex_cycles_left» = s .«ex_cycles_left» - 1;
+  cycles = s .cycles + 1;
+  «running_cycles» = s .«running_cycles» + 1;
+  «instructions_executed» = s .«instructions_executed»;
+  «stall_cycles» = s .«stall_cycles» + 1;
+  «flush_events» = s .«flush_events»;
+}
+advance beginWait s x = record {
+  reg = s .reg;
+  «fetch_pc» = s .«fetch_pc»;
+  «fetch_mode» = s .«fetch_mode»;
+  «retire_pc» = s .«retire_pc»;
+  «retire_mode» = s .«retire_mode»;
+  running = s .running;
+  user = s .user;
+  features = s .features;
+  «if_id» = s .«if_id»;
+  «id_ex» = s .«id_ex»;
+  «ex_mem» = emptyExMem;
+  «mem_wb» = memWbOf (s .«ex_mem») (x .answer);
+  «ex_armed» = true;
+  «ex_cycles_left» = waits ((s .«id_ex») .decoded);
+  cycles = s .cycles + 1;
+  «running_cycles» = s .«running_cycles» + 1;
+  «instructions_executed» = s .«instructions_executed»;
+  «stall_cycles» = s .«stall_cycles» + 1;
+  «flush_events» = s .«flush_events»;
+}
+advance (loadUseStall g) s x = record {
+  reg = s .reg;
+  «fetch_pc» = targetOr g (s .«fetch_pc»);
+  «fetch_mode» = modeOr g (s .«fetch_mode»);
+  «retire_pc» = s .«retire_pc»;
+  «retire_mode» = s .«retire_mode»;
+  running = s .running;
+  user = s .user;
+  features = s .features;
+  «if_id» = cond (isTo g) (cleared (s .«if_id»)) (s .«if_id»);
+  «id_ex» = emptyIdEx;
+  «ex_mem» = executed s;
+  «mem_wb» = memWbOf (s .«ex_mem») (x .answer);
+  «ex_armed» = false;
+  «ex_cycles_left» = cond (s .«ex_armed») 0 (s .«ex_cycles_left»);
+  cycles = s .cycles + 1;
+  «running_cycles» = s .«running_cycles» + 1;
+  «instructions_executed» = s .«instructions_executed»;
+  «stall_cycles» = s .«stall_cycles» + 1;
+  «flush_events» = s .«flush_events» + bit (isTo g);
+}
+advance proceed s x = record {
+  reg = s .reg;
+  «fetch_pc» =
+      cond (s .running) (fall ((fetchPlace proceed s) .0) ((fetchPlace proceed s) .1)) ((fetchPlace proceed s) .0);
+  «fetch_mode» = (fetchPlace proceed s) .1;
+  «retire_pc» = s .«retire_pc»;
+  «retire_mode» = s .«retire_mode»;
+  running = s .running;
+  user = s .user;
+  features = s .features;
+  «if_id» = fetched (s .running) (s .«if_id») (fetchPlace proceed s) (x .raw);
+  «id_ex» = nextIdEx s;
+  «ex_mem» = executed s;
+  «mem_wb» = memWbOf (s .«ex_mem») (x .answer);
+  «ex_armed» = false;
+  «ex_cycles_left» = cond (s .«ex_armed») 0 (s .«ex_cycles_left»);
+  cycles = s .cycles + 1;
+  «running_cycles» = s .«running_cycles» + 1;
+  «instructions_executed» = s .«instructions_executed»;
+  «stall_cycles» = s .«stall_cycles»;
+  «flush_events» = s .«flush_events»;
+}
+advance (redirect p m) s x = record {
+  reg = s .reg;
+  «fetch_pc» = p;
+  «fetch_mode» = m;
+  «retire_pc» = s .«retire_pc»;
+  «retire_mode» = s .«retire_mode»;
+  running = s .running;
+  user = s .user;
+  features = s .features;
+  «if_id» = cleared (fetched (s .running) (s .«if_id») (fetchPlace (redirect p m) s) (x .raw));
+  «id_ex» =
+      emptyIdEx;
+  «ex_mem» = executed s;
+  «mem_wb» = memWbOf (s .«ex_mem») (x .answer);
+  «ex_armed» = false;
+  «ex_cycles_left» = cond (s .«ex_armed») 0 (s .«ex_cycles_left»);
+  cycles = s .cycles + 1;
+  «running_cycles» = s .«running_cycles» + 1;
+  «instructions_executed» = s .«instructions_executed»;
+  «stall_cycles» = s .«stall_cycles»;
+  «flush_events» = s .«flush_events» + 1;
+}
+
+-- not running: only the tick count rises
+unfoldable pub idle : PipelineCpu → PipelineCpu
+idle s = record {
+  reg = s .reg;
+  «fetch_pc» = s .«fetch_pc»;
+  «fetch_mode» = s .«fetch_mode»;
+  «retire_pc» = s .«retire_pc»;
+  «retire_mode» = s .«retire_mode»;
+  running = s .running;
+  user = s .user;
+  features = s .features;
+  «if_id» = s .«if_id»;
+  «id_ex» = s .«id_ex»;
+  «ex_mem» = s .«ex_mem»;
+  «mem_wb» = s .«mem_wb»;
+  «ex_armed» = s .«ex_armed»;
+  «ex_cycles_left» = s .«ex_cycles_left»;
+  cycles = s .cycles + 1;
+  «running_cycles» = s .«running_cycles»;
+  «instructions_executed» = s .«instructions_executed»;
+  «stall_cycles» = s .«stall_cycles»;
+  «flush_events» = s .«flush_events»;
+}
+
+-- whether a tick moves anything
+unfoldable pub awake : PipelineCpu → Bool
+awake s = s .running
+
+-- a tick that moves nothing
+unfoldable pub resting : PipelineCpu → PipelineCpu
+resting s = idle s
+
+-- the next state
+unfoldable pub next : PipelineCpu → Taken → PipelineCpu
+next s x = cond (awake s) (advance (move (retire s)) (retire s) x) (resting s)

@@ -1,0 +1,16 @@
+pub mod Names
+pub mod Forwarding
+pub mod Execute
+pub mod Retire
+pub mod Move
+pub mod Fetch
+pub mod Advance
+pub mod Stages
+pub mod Start
+pub mod Ask
+pub mod Tick
+pub mod Count
+pub mod Accuracy
+pub mod Premise
+pub mod Table
+pub mod Claims

@@ -1,0 +1,31 @@
+-- Start: R0 becomes 0, the address and mode are both the fetch and the retire place, latches are empty, no wait is
+-- under way, the machine runs, counters are 0.
+use Prim.Native.Nat.{ℕ}
+use lib.ListN.{set}
+use mathlib.Core.Bool.{Bool, false, true}
+use mathlib.Core.List.{List}
+use Rattle.latch.specs.Latches.{emptyExMem, emptyIdEx, emptyIfId, emptyMemWb}
+use Rattle.pipeline.specs.Names.{Mode, PipelineCpu}
+
+unfoldable pub fresh : List ℕ → ℕ → Mode → Bool → ℕ → PipelineCpu
+fresh regs pc mode user features = record {
+  reg = set regs 0 0;
+  «fetch_pc» = pc;
+  «fetch_mode» = mode;
+  «retire_pc» = pc;
+  «retire_mode» = mode;
+  running = true;
+  user = user;
+  features = features;
+  «if_id» = emptyIfId;
+  «id_ex» = emptyIdEx;
+  «ex_mem» = emptyExMem;
+  «mem_wb» = emptyMemWb;
+  «ex_cycles_left» = 0;
+  «ex_armed» = false;
+  cycles = 0;
+  «running_cycles» = 0;
+  «instructions_executed» = 0;
+  «stall_cycles» = 0;
+  «flush_events» = 0;
+}

@@ -1,0 +1,124 @@
+// The pipeline: its state, what a tick is given, what asking names, and how a tick ends.
+use isa::Mode;
+use isa::RawInstr;
+use isa::Redirect;
+use isa::Request;
+use latch::ExMem;
+use latch::IdEx;
+use latch::IfId;
+use latch::MemWb;
+
+// The state: registers, fetch and retire place, latches, the wait in EX, and the five counters.
+pub struct PipelineCpu {
+    pub reg: [u32; 32],
+    pub fetch_pc: u32,
+    pub fetch_mode: Mode,
+    pub retire_pc: u32,
+    pub retire_mode: Mode,
+    pub running: bool,
+    pub user: bool,
+    pub features: u32,
+    pub if_id: IfId,
+    pub id_ex: IdEx,
+    pub ex_mem: ExMem,
+    pub mem_wb: MemWb,
+    pub ex_cycles_left: u32,
+    pub ex_armed: bool,
+    pub cycles: u64,
+    pub running_cycles: u64,
+    pub instructions_executed: u64,
+    pub stall_cycles: u64,
+    pub flush_events: u64,
+}
+
+// What the caller offers for a fetch: Nothing, or a Normal or Short instruction.
+pub enum Offer {
+    Nothing,
+    Instr(RawInstr),
+}
+
+// The answer to a load, or none.
+pub enum Answer {
+    None,
+    Word(u32),
+}
+
+// What a tick is given.
+pub struct Given {
+    pub offer: Offer,
+    pub answer: Answer,
+}
+
+// How a tick ended.
+pub enum Outcome {
+    Accepted,
+    Refused(u32),
+}
+
+// The state handed back by a tick: the next one, or the very state given where the tick was refused.
+pub struct Ticked {
+    pub state: PipelineCpu,
+    pub outcome: Outcome,
+}
+
+// The place that a tick fetches from.
+pub enum Fetch {
+    None,
+    From(u32, Mode),
+}
+
+// What a tick will want.
+pub struct Wanted {
+    pub fetch: Fetch,
+    pub request: Request,
+}
+
+// The answer of asking.
+pub enum Asked {
+    Refused(u32),
+    Wants(Wanted),
+}
+
+// The state but for the registers, which are lent beside it while ticks are done.
+pub struct Stages {
+    pub fetch_pc: u32,
+    pub fetch_mode: Mode,
+    pub retire_pc: u32,
+    pub retire_mode: Mode,
+    pub running: bool,
+    pub user: bool,
+    pub features: u32,
+    pub if_id: IfId,
+    pub id_ex: IdEx,
+    pub ex_mem: ExMem,
+    pub mem_wb: MemWb,
+    pub ex_cycles_left: u32,
+    pub ex_armed: bool,
+    pub cycles: u64,
+    pub running_cycles: u64,
+    pub instructions_executed: u64,
+    pub stall_cycles: u64,
+    pub flush_events: u64,
+}
+
+// What the rest of a tick does once MEM/WB has retired: continue or begin a wait in EX, hold the front
+// end behind a used load, go on, or redirect.
+pub enum Move {
+    KeepWaiting,
+    BeginWait,
+    LoadUseStall(Redirect),
+    Proceed,
+    Redirect(u32, Mode),
+}
+
+// A move, and the next EX/MEM.
+pub struct Decision {
+    pub step: Move,
+    pub ex_mem: ExMem,
+}
+
+// An address and its mode.
+pub struct Place {
+    pub pc: u32,
+    pub mode: Mode,
+}
