@@ -1,11 +1,14 @@
 -- Execute: the effect of ID/EX with operand values x and y, and the EX/MEM latch that it makes.
 use Prim.Native.Nat.{ℕ}
+use lib.Dec.{ltb}
 use mathlib.Core.Bool.{Bool, _&&_, _||_, cond, false, true}
+use mathlib.Core.List.{List}
 use Rattle.isa.specs.Effect.{effectOf, raises}
 use Rattle.isa.specs.Machine.{destOf}
 use Rattle.isa.specs.Redirects.{isException, isTo, targetOr}
 use Rattle.isa.specs.Registers.{isNamed}
-use Rattle.latch.specs.Names.{Effect, ExMem, IdEx, Mode, Next, Redirect, To}
+use Rattle.latch.specs.Forwarding.{forwardFrom}
+use Rattle.latch.specs.Names.{Effect, ExMem, IdEx, MemWb, Mode, Next, Redirect, To}
 
 -- an exception already in the latch comes first
 unfoldable pub effectIn : Bool → IdEx → ℕ → ℕ → Effect
@@ -43,3 +46,9 @@ unfoldable pub mispredict : Bool → Redirect → ℕ → Mode → Redirect
 mispredict false h p m = h
 mispredict true Next p m = To p m
 mispredict true (To q n) p m = Next
+
+-- the effect of ID/EX with its operands forwarded out of the latches; operand B only where two sources are named
+unfoldable pub effectFrom : Bool → ExMem → MemWb → ℕ → List ℕ → IdEx → Effect
+effectFrom u x w features rs l =
+    effectIn u l (forwardFrom x w features rs (l .«src_a»))
+    (cond (ltb 1 (l .«n_srcs»)) (forwardFrom x w features rs (l .«src_b»)) (l .«op_b»))

@@ -3,9 +3,11 @@ ghost use mathlib.Core.Bool.{cond, false};
 ghost use mathlib.Core.Path.{_≡_};
 ghost use Rattle.isa.specs.Effect.{raises};
 ghost use Rattle.isa.specs.Machine.{destWhere};
-ghost use Rattle.latch.specs.Execute.{effectIn, exMemOf, mispredict};
+ghost use Rattle.latch.specs.Execute.{effectIn, exMemOf, mispredict, effectFrom};
 use crate::ExMem;
 use crate::IdEx;
+use crate::MemWb;
+use crate::forwarding::forwarded;
 use isa::Dest;
 use isa::Effect;
 use isa::Exception;
@@ -13,6 +15,7 @@ use isa::Mode;
 use isa::Mtsr;
 use isa::NewMode;
 use isa::Redirect;
+use isa::registers::sel;
 
 fn raised(e: Exception) -> Effect
     ensures { λ r. ⌜ r ≡ raises e ⌝ }
@@ -116,4 +119,20 @@ impl IdEx {
             mtsr,
         }
     }
+}
+
+// The effect of ID/EX with its operands forwarded out of the latches.
+pub fn effect_from(
+    user: bool,
+    x: ExMem,
+    w: MemWb,
+    features: u32,
+    reg: &[u32; 32],
+    d: IdEx,
+) -> Effect
+    ensures { λ r. ⌜ r ≡ effectFrom user x w features (now (reg .entry)) d ⌝ }
+{
+    let a = forwarded(x, w, features, reg, d.src_a);
+    let b = forwarded(x, w, features, reg, d.src_b);
+    d.effect(user, a, sel(1 < d.n_srcs, b, d.op_b))
 }

@@ -1,8 +1,9 @@
 // Forwarding out of one latch, over the value of an older place.
 ghost use mathlib.Core.Path.{_≡_};
-ghost use Rattle.latch.specs.Forwarding.{fromMemWb, fromExMem};
+ghost use Rattle.latch.specs.Forwarding.{fromMemWb, fromExMem, forwardFrom};
 use crate::ExMem;
 use crate::MemWb;
+use isa::registers::read_reg;
 use isa::registers::sel;
 
 impl MemWb {
@@ -37,4 +38,12 @@ impl ExMem {
             sel(name, 0x53524332, sel(word, features, v)),
         )
     }
+}
+
+// The value of a register as EX sees it.
+pub fn forwarded(x: ExMem, w: MemWb, features: u32, reg: &[u32; 32], r: u8) -> u32
+    ensures { λ a. ⌜ a ≡ forwardFrom x w features (now (reg .entry)) r ⌝ }
+{
+    let old = w.forward(features, r, read_reg(reg, r));
+    sel(r == 0, 0, x.forward(features, r, old))
 }

@@ -2,7 +2,7 @@
 pub mod bounds;
 mod decode;
 pub mod execute;
-mod forwarding;
+pub mod forwarding;
 mod memory;
 mod retire;
 

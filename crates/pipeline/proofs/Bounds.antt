@@ -20,17 +20,17 @@ use Rattle.latch.specs.Memory.{destAfter, loads, memWbOf, stores, valueAfter, w
 use Rattle.latch.specs.Retire.{halts}
 use Rattle.pipeline.proofs.Instructions.{short-ok, sources-in, waits-in, width-in}
 use Rattle.pipeline.proofs.Passed.{Passed, passed}
-use Rattle.pipeline.specs.Advance.{Taken, advance, awake, idle, next, resting}
+use Rattle.pipeline.specs.Advance.{Taken, advance, advanceBy, awake, idle, next, resting}
 use Rattle.pipeline.specs.Ask.{broken}
 use Rattle.pipeline.specs.Execute.{effectFor, executed, executedBy}
 use Rattle.pipeline.specs.Fetch.{fetchPlace, fetched, nextIdEx}
-use Rattle.pipeline.specs.Move.{move}
+use Rattle.pipeline.specs.Move.{move, nextExMem}
 use Rattle.pipeline.specs.Names.{Dest, Effect, ExMem, Given, IdEx, IfId, Instr, Mode, Move, Nothing, Offer}
 use Rattle.pipeline.specs.Names.{PipelineCpu, RawInstr, RawNormal, RawShort, beginWait, keepWaiting}
 use Rattle.pipeline.specs.Names.{loadUseStall, proceed, redirect}
 use Rattle.pipeline.specs.Retire.{retire}
 use Rattle.pipeline.specs.Start.{fresh}
-use Rattle.pipeline.specs.Tick.{badOffer, mfsrOffer, moved, rawOf, taken, tests, tick}
+use Rattle.pipeline.specs.Tick.{badOffer, givenTests, mfsrOffer, moved, rawOf, taken, tests, tick}
 
 -- the bounds, one by one
 pub record Within (s : PipelineCpu) : Type 0 where
@@ -176,7 +176,7 @@ retire-in s w = split (halts (s .«mem_wb»))
     })
 
 advance-in : (m : Move) (s : PipelineCpu) (x : Taken) → Within s → badRaw (x .raw) ≡ false → Within (advance m s x)
-unfolding advance
+unfolding advance advanceBy nextExMem
 advance-in keepWaiting s y w h = record {
   «if_id» = w .«if_id»;
   «id_ex» = w .«id_ex»;
@@ -243,7 +243,7 @@ offer-in (Instr (RawNormal i)) a b = rw (a, b)
 offer-in (Instr (RawShort h)) a b = refl
 
 pub tick-in : (s : PipelineCpu) (t : Given) (s′ : PipelineCpu) → tick s t ≡ moved s′ → broken s′ ≡ false
-unfolding tick tests Passed taken
+unfolding tick tests givenTests Passed taken
 tick-in s t s′ e =
     let r = passed (tests s t) (next s (taken t)) s′ e in
     let p = r .0 in

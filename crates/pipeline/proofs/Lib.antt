@@ -12,4 +12,7 @@ pub mod Sense
 pub mod Agree
 pub mod Forwarding
 pub mod Table
+pub mod Moves
+pub mod Refusing
+pub mod Running
 pub mod Claims

@@ -13,15 +13,15 @@ use Rattle.isa.specs.Short.{decodedOf}
 use Rattle.pipeline.proofs.Accuracy.{demand3}
 use Rattle.pipeline.proofs.Took.{advance-retired, took}
 use Rattle.pipeline.specs.Accuracy.{Meets, Offers, Retires, Run, TakesWhole, after, arch, begin, one, oneBy}
-use Rattle.pipeline.specs.Advance.{Taken, advance, awake, idle, next, resting}
+use Rattle.pipeline.specs.Advance.{Taken, advance, advanceBy, awake, idle, next, resting}
 use Rattle.pipeline.specs.Ask.{brimming, broken, fetchAt, stuck, wantFetch, wantLoad}
-use Rattle.pipeline.specs.Move.{move}
+use Rattle.pipeline.specs.Move.{move, nextExMem}
 use Rattle.pipeline.specs.Names.{Given, Instr, Mode, Move, NoAnswer, Normal, Nothing, PipelineCpu, RawInstr}
 use Rattle.pipeline.specs.Names.{Short, Word, beginWait, keepWaiting, loadUseStall, proceed, redirect}
 use Rattle.pipeline.specs.Premise.{fits, replies, reply}
 use Rattle.pipeline.specs.Retire.{retire}
-use Rattle.pipeline.specs.Tick.{Result, badOffer, fitsOffer, isAnswer, mfsrOffer, moved, refused, same, taken}
-use Rattle.pipeline.specs.Tick.{tests, tick, verdict}
+use Rattle.pipeline.specs.Tick.{Result, badOffer, fitsOffer, givenTests, isAnswer, mfsrOffer, moved, refused}
+use Rattle.pipeline.specs.Tick.{same, taken, tests, tick, verdict}
 use Rattle.word.specs.Words.{bit}
 
 -- a tick adds at most one retirement
@@ -75,7 +75,7 @@ more-count r (t ∷ ts) = let h = one-count r t in let k = more-count (one r t) 
 
 -- the number of an accepted tick is the tick counter
 advance-ticks : (m : Move) (s : PipelineCpu) (x : Taken) → (advance m s x) .cycles ≡ s .cycles + 1
-unfolding advance
+unfolding advance advanceBy nextExMem
 advance-ticks keepWaiting s x = refl
 advance-ticks beginWait s x = refl
 advance-ticks (loadUseStall g) s x = refl
@@ -218,7 +218,7 @@ fit-answer false v = refl
 
 pub goes-on : (s : PipelineCpu) (v : ℕ) → broken s ≡ false → stuck s ≡ false → brimming s ≡ false
     → tick s (reply (λ p m. fits m) v s) ≡ moved (next s (taken (reply (λ p m. fits m) v s)))
-unfolding tick tests verdict reply
+unfolding tick tests givenTests verdict reply
 goes-on s v a b c = rw (
   a,
   b,

@@ -19,22 +19,22 @@ use Rattle.latch.specs.Memory.{destAfter, loads, memWbOf, requests, stores, val
 use Rattle.latch.specs.Retire.{halts, isFaulty, retireCpuid, retireReg, retiredMode, retiredPc, retiredRegs}
 use Rattle.pipeline.proofs.Path.{due}
 use Rattle.pipeline.specs.Accuracy.{after, archWith, begin, one, oneBy}
-use Rattle.pipeline.specs.Advance.{advance, awake, idle, next, resting}
+use Rattle.pipeline.specs.Advance.{advance, advanceBy, awake, idle, next, resting}
 use Rattle.pipeline.specs.Ask.{asks, brimming, broken, fetchAt, isFull, stuck, wantFetch, wantLoad}
 use Rattle.pipeline.specs.Count.{count, divides, isRedirect, multiplies, path, predictAt, redirects}
 use Rattle.pipeline.specs.Count.{retireTick, usedLoads}
 use Rattle.pipeline.specs.Execute.{effectFor, executed, executedBy, operandB, redirectBy, redirectOf}
 use Rattle.pipeline.specs.Fetch.{fetchPlace, fetched, fetches, nextIdEx, predicted}
 use Rattle.pipeline.specs.Forwarding.{forwarded}
-use Rattle.pipeline.specs.Move.{choose, chooseDone, chooseFree, hazard, isSlow, move, proceedOr}
+use Rattle.pipeline.specs.Move.{choose, chooseDone, chooseFree, hazard, isSlow, move, nextExMem, proceedOr}
 use Rattle.pipeline.specs.Premise.{replies, reply}
 use Rattle.pipeline.specs.Retire.{retire}
 use Rattle.pipeline.specs.Start.{fresh}
 use Rattle.pipeline.specs.Table.{Rows, behindRow, branchRow, divideRow, dueIn, figures, figuresOf, haltRow}
 use Rattle.pipeline.specs.Table.{loadRow, loopRow, mixedBegin, mixedRow, mixedTicks, multiplyRow, offerAt}
 use Rattle.pipeline.specs.Table.{offerIn, play, programOf, row, shortRow, zeros}
-use Rattle.pipeline.specs.Tick.{badOffer, fitsOffer, handedBack, isAnswer, mfsrOffer, rawOf, same, taken}
-use Rattle.pipeline.specs.Tick.{tests, tick, ticked, verdict, wordIn}
+use Rattle.pipeline.specs.Tick.{badOffer, fitsOffer, givenTests, handedBack, isAnswer, mfsrOffer, rawOf, same}
+use Rattle.pipeline.specs.Tick.{taken, tests, tick, ticked, verdict, wordIn}
 use Rattle.word.specs.Words.{add32, and32, bit, div32, divu32, ldih32, ldil32, mod32, mul32, mulh32, offset32, or32}
 use Rattle.word.specs.Words.{sll32, slt32, sltu32, sra32, srl32, sub32, xor32}
 
@@ -56,9 +56,11 @@ unfolding isReg bit add32 sub32 offset32 and32 or32 xor32 sll32 srl32 sra32 slt3
     retiredPc retiredMode isFaulty badInstruction badRaw badDecoded badWidth badIfId badIdEx badExMem badMemWb
     forwarded operandB effectFor executed executedBy redirectOf redirectBy retire hazard proceedOr chooseFree
     chooseDone choose move isSlow
-    predicted fetchPlace fetches fetched nextIdEx advance idle awake resting next fresh wantFetch fetchAt asks
+    predicted fetchPlace fetches fetched nextIdEx advance advanceBy nextExMem idle awake resting next fresh
+    wantFetch fetchAt asks
     wantLoad broken stuck isFull brimming badOffer mfsrOffer fitsOffer isAnswer same rawOf wordIn taken verdict
-    tests tick handedBack ticked predictAt isRedirect count multiplies divides usedLoads redirects retireTick path
+    givenTests tests tick handedBack ticked predictAt isRedirect count multiplies divides usedLoads redirects
+    retireTick path
     oneBy one after begin archWith reply replies offerIn offerAt play figures figuresOf zeros row programOf dueIn
     haltRow multiplyRow loadRow loopRow branchRow divideRow behindRow shortRow mixedRow mixedBegin mixedTicks
 rows = record {

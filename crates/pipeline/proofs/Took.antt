@@ -9,13 +9,15 @@ use Rattle.latch.specs.Retire.{halts}
 use Rattle.pipeline.proofs.Instructions.{okIn}
 use Rattle.pipeline.proofs.Passed.{Passed, passed}
 use Rattle.pipeline.specs.Accuracy.{said}
-use Rattle.pipeline.specs.Advance.{Taken, advance, next}
+use Rattle.pipeline.specs.Advance.{Taken, advance, advanceBy, next}
 use Rattle.pipeline.specs.Ask.{fetchAt, stuck, wantFetch, wantLoad}
+use Rattle.pipeline.specs.Move.{nextExMem}
 use Rattle.pipeline.specs.Names.{Answer, Given, Instr, Mode, Move, NoAnswer, Normal, Nothing, Offer}
 use Rattle.pipeline.specs.Names.{PipelineCpu, RawNormal, RawShort, Short, Word, beginWait, keepWaiting}
 use Rattle.pipeline.specs.Names.{loadUseStall, proceed, redirect}
 use Rattle.pipeline.specs.Retire.{retire}
-use Rattle.pipeline.specs.Tick.{badOffer, fitsOffer, isAnswer, moved, rawOf, same, taken, tests, tick, wordIn}
+use Rattle.pipeline.specs.Tick.{badOffer, fitsOffer, givenTests, isAnswer, moved, rawOf, same, taken, tests}
+use Rattle.pipeline.specs.Tick.{tick, wordIn}
 
 -- what an accepted tick tells
 pub record Took (s : PipelineCpu) (t : Given) (s′ : PipelineCpu) : Type 0 where
@@ -26,7 +28,7 @@ pub record Took (s : PipelineCpu) (t : Given) (s′ : PipelineCpu) : Type 0 wher
   pub is : next s (taken t) ≡ s′
 
 pub took : (s : PipelineCpu) (t : Given) (s′ : PipelineCpu) → tick s t ≡ moved s′ → Took s t s′
-unfolding tick tests Passed
+unfolding tick tests givenTests Passed
 took s t s′ e =
     let r = passed (tests s t) (next s (taken t)) s′ e in
     let p = r .0 .1 in
@@ -75,7 +77,7 @@ retire-off s e = rw e
 
 -- what every move leaves alone
 pub advance-running : (m : Move) (s : PipelineCpu) (inp : Taken) → (advance m s inp) .running ≡ s .running
-unfolding advance
+unfolding advance advanceBy nextExMem
 advance-running keepWaiting s inp = refl
 advance-running beginWait s inp = refl
 advance-running (loadUseStall g) s inp = refl
@@ -84,7 +86,7 @@ advance-running (redirect p m) s inp = refl
 
 pub advance-retired : (m : Move) (s : PipelineCpu) (inp : Taken) → (advance m s inp) .«instructions_executed» ≡
     s .«instructions_executed»
-unfolding advance
+unfolding advance advanceBy nextExMem
 advance-retired keepWaiting s inp = refl
 advance-retired beginWait s inp = refl
 advance-retired (loadUseStall g) s inp = refl
@@ -92,7 +94,7 @@ advance-retired proceed s inp = refl
 advance-retired (redirect p m) s inp = refl
 
 pub advance-regs : (m : Move) (s : PipelineCpu) (inp : Taken) → (advance m s inp) .reg ≡ s .reg
-unfolding advance
+unfolding advance advanceBy nextExMem
 advance-regs keepWaiting s inp = refl
 advance-regs beginWait s inp = refl
 advance-regs (loadUseStall g) s inp = refl
@@ -100,7 +102,7 @@ advance-regs proceed s inp = refl
 advance-regs (redirect p m) s inp = refl
 
 pub advance-retire-pc : (m : Move) (s : PipelineCpu) (inp : Taken) → (advance m s inp) .«retire_pc» ≡ s .«retire_pc»
-unfolding advance
+unfolding advance advanceBy nextExMem
 advance-retire-pc keepWaiting s inp = refl
 advance-retire-pc beginWait s inp = refl
 advance-retire-pc (loadUseStall g) s inp = refl
@@ -109,7 +111,7 @@ advance-retire-pc (redirect p m) s inp = refl
 
 pub advance-retire-mode : (m : Move) (s : PipelineCpu) (inp : Taken) → (advance m s inp) .«retire_mode» ≡
     s .«retire_mode»
-unfolding advance
+unfolding advance advanceBy nextExMem
 advance-retire-mode keepWaiting s inp = refl
 advance-retire-mode beginWait s inp = refl
 advance-retire-mode (loadUseStall g) s inp = refl

@@ -4,13 +4,12 @@ use mathlib.Core.Bool.{Bool, cond, false, true}
 use Rattle.isa.specs.Effect.{fall}
 use Rattle.isa.specs.Redirects.{isTo, modeOr, targetOr}
 use Rattle.isa.specs.Waits.{waits}
-use Rattle.latch.specs.Latches.{cleared, emptyExMem, emptyIdEx}
+use Rattle.latch.specs.Latches.{cleared, emptyIdEx}
 use Rattle.latch.specs.Memory.{memWbOf}
-use Rattle.pipeline.specs.Execute.{executed}
 use Rattle.pipeline.specs.Fetch.{fetchPlace, fetched, nextIdEx}
-use Rattle.pipeline.specs.Move.{move}
-use Rattle.pipeline.specs.Names.{Move, PipelineCpu, RawInstr, beginWait, keepWaiting, loadUseStall, proceed}
-use Rattle.pipeline.specs.Names.{redirect}
+use Rattle.pipeline.specs.Move.{move, nextExMem}
+use Rattle.pipeline.specs.Names.{ExMem, IdEx, Mode, Move, PipelineCpu, RawInstr, beginWait, keepWaiting}
+use Rattle.pipeline.specs.Names.{loadUseStall, proceed, redirect}
 use Rattle.pipeline.specs.Retire.{retire}
 use Rattle.word.specs.Words.{bit}
 
@@ -19,8 +18,9 @@ pub record Taken : Type 0 where
   pub answer : ℕ
   pub raw : RawInstr
 
-unfoldable pub advance : Move → PipelineCpu → Taken → PipelineCpu
-advance keepWaiting s x = record {
+-- l: the next EX/MEM; d: the next ID/EX where the move decodes; p: the place that it fetches from
+unfoldable pub advanceBy : Move → ExMem → IdEx → ℕ × Mode → PipelineCpu → Taken → PipelineCpu
+advanceBy keepWaiting l d p s x = record {
   reg = s .reg;
   «fetch_pc» = s .«fetch_pc»;
   «fetch_mode» = s .«fetch_mode»;
@@ -31,7 +31,7 @@ advance keepWaiting s x = record {
   features = s .features;
   «if_id» = s .«if_id»;
   «id_ex» = s .«id_ex»;
-  «ex_mem» = emptyExMem;
+  «ex_mem» = l;
   «mem_wb» = memWbOf (s .«ex_mem») (x .answer);
   «ex_armed» = true;
   «ex_cycles_left» = s .«ex_cycles_left» - 1;
@@ -41,7 +41,7 @@ advance keepWaiting s x = record {
   «stall_cycles» = s .«stall_cycles» + 1;
   «flush_events» = s .«flush_events»;
 }
-advance beginWait s x = record {
+advanceBy beginWait l d p s x = record {
   reg = s .reg;
   «fetch_pc» = s .«fetch_pc»;
   «fetch_mode» = s .«fetch_mode»;
@@ -52,7 +52,7 @@ advance beginWait s x = record {
   features = s .features;
   «if_id» = s .«if_id»;
   «id_ex» = s .«id_ex»;
-  «ex_mem» = emptyExMem;
+  «ex_mem» = l;
   «mem_wb» = memWbOf (s .«ex_mem») (x .answer);
   «ex_armed» = true;
   «ex_cycles_left» = waits ((s .«id_ex») .decoded);
@@ -62,7 +62,7 @@ advance beginWait s x = record {
   «stall_cycles» = s .«stall_cycles» + 1;
   «flush_events» = s .«flush_events»;
 }
-advance (loadUseStall g) s x = record {
+advanceBy (loadUseStall g) l d p s x = record {
   reg = s .reg;
   «fetch_pc» = targetOr g (s .«fetch_pc»);
   «fetch_mode» = modeOr g (s .«fetch_mode»);
@@ -73,7 +73,7 @@ advance (loadUseStall g) s x = record {
   features = s .features;
   «if_id» = cond (isTo g) (cleared (s .«if_id»)) (s .«if_id»);
   «id_ex» = emptyIdEx;
-  «ex_mem» = executed s;
+  «ex_mem» = l;
   «mem_wb» = memWbOf (s .«ex_mem») (x .answer);
   «ex_armed» = false;
   «ex_cycles_left» = cond (s .«ex_armed») 0 (s .«ex_cycles_left»);
@@ -83,19 +83,19 @@ advance (loadUseStall g) s x = record {
   «stall_cycles» = s .«stall_cycles» + 1;
   «flush_events» = s .«flush_events» + bit (isTo g);
 }
-advance proceed s x = record {
+advanceBy proceed l d p s x = record {
   reg = s .reg;
   «fetch_pc» =
-      cond (s .running) (fall ((fetchPlace proceed s) .0) ((fetchPlace proceed s) .1)) ((fetchPlace proceed s) .0);
-  «fetch_mode» = (fetchPlace proceed s) .1;
+      cond (s .running) (fall (p .0) (p .1)) (p .0);
+  «fetch_mode» = p .1;
   «retire_pc» = s .«retire_pc»;
   «retire_mode» = s .«retire_mode»;
   running = s .running;
   user = s .user;
   features = s .features;
-  «if_id» = fetched (s .running) (s .«if_id») (fetchPlace proceed s) (x .raw);
-  «id_ex» = nextIdEx s;
-  «ex_mem» = executed s;
+  «if_id» = fetched (s .running) (s .«if_id») p (x .raw);
+  «id_ex» = d;
+  «ex_mem» = l;
   «mem_wb» = memWbOf (s .«ex_mem») (x .answer);
   «ex_armed» = false;
   «ex_cycles_left» = cond (s .«ex_armed») 0 (s .«ex_cycles_left»);
@@ -105,19 +105,19 @@ advance proceed s x = record {
   «stall_cycles» = s .«stall_cycles»;
   «flush_events» = s .«flush_events»;
 }
-advance (redirect p m) s x = record {
+advanceBy (redirect q m) l d p s x = record {
   reg = s .reg;
-  «fetch_pc» = p;
+  «fetch_pc» = q;
   «fetch_mode» = m;
   «retire_pc» = s .«retire_pc»;
   «retire_mode» = s .«retire_mode»;
   running = s .running;
   user = s .user;
   features = s .features;
-  «if_id» = cleared (fetched (s .running) (s .«if_id») (fetchPlace (redirect p m) s) (x .raw));
+  «if_id» = cleared (fetched (s .running) (s .«if_id») p (x .raw));
   «id_ex» =
       emptyIdEx;
-  «ex_mem» = executed s;
+  «ex_mem» = l;
   «mem_wb» = memWbOf (s .«ex_mem») (x .answer);
   «ex_armed» = false;
   «ex_cycles_left» = cond (s .«ex_armed») 0 (s .«ex_cycles_left»);
@@ -127,6 +127,9 @@ advance (redirect p m) s x = record {
   «stall_cycles» = s .«stall_cycles»;
   «flush_events» = s .«flush_events» + 1;
 }
+
+unfoldable pub advance : Move → PipelineCpu → Taken → PipelineCpu
+advance m s x = advanceBy m (nextExMem m s) (nextIdEx s) (fetchPlace m s) s x
 
 -- not running: only the tick count rises
 unfoldable pub idle : PipelineCpu → PipelineCpu

@@ -14,3 +14,5 @@ pub mod Accuracy
 pub mod Premise
 pub mod Table
 pub mod Claims
+pub mod Parts
+pub mod Codes

@@ -2,15 +2,14 @@
 -- end behind a used load, go on, or redirect).
 use lib.Dec.{ltb}
 use mathlib.Core.Bool.{Bool, _&&_, false, true}
-use Rattle.isa.specs.Machine.{step}
 use Rattle.isa.specs.Operands.{operandsOf}
 use Rattle.isa.specs.Short.{decodedOf}
 use Rattle.isa.specs.Waits.{waits}
 use Rattle.latch.specs.Decode.{loadUse}
 use Rattle.latch.specs.Latches.{emptyExMem}
 use Rattle.pipeline.specs.Execute.{executed, redirectOf}
-use Rattle.pipeline.specs.Names.{Decision, ExMem, IdEx, Move, Next, PipelineCpu, Redirect, To, beginWait}
-use Rattle.pipeline.specs.Names.{keepWaiting, loadUseStall, proceed, redirect}
+use Rattle.pipeline.specs.Names.{ExMem, IdEx, Move, Next, PipelineCpu, Redirect, To, beginWait, keepWaiting}
+use Rattle.pipeline.specs.Names.{loadUseStall, proceed, redirect}
 
 -- the waiter in IF/ID names the destination of the load in ID/EX
 unfoldable pub hazard : PipelineCpu → Bool
@@ -54,6 +53,3 @@ nextExMem beginWait s = emptyExMem
 nextExMem (loadUseStall g) s = executed s
 nextExMem proceed s = executed s
 nextExMem (redirect p m) s = executed s
-
-unfoldable pub decision : PipelineCpu → Decision
-decision s = record { step = move s; «ex_mem» = nextExMem (move s) s }

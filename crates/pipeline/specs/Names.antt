@@ -56,4 +56,18 @@ pub use Rattle.pipeline.specs.declared.Move.the-variants.{LoadUseStall a
 pub use Rattle.pipeline.specs.declared.Move.the-variants.{Redirect as redirect}
 pub use Rattle.pipeline.specs.declared.Stages.{Stages}
 pub use Rattle.pipeline.specs.declared.Place.{Place}
-pub use Rattle.pipeline.specs.declared.Decision.{Decision}
+pub use Rattle.pipeline.specs.declared.Front.{Front}
+pub use Rattle.pipeline.specs.declared.Plan.{Plan}
+pub use Rattle.pipeline.specs.declared.Forwarded.{Forwarded}
+pub use Rattle.pipeline.specs.declared.Forwarded.the-variants.{Refused as NotForwarded, Word as ForwardedWord}
+pub use Rattle.pipeline.specs.declared.Execution.{Execution}
+pub use Rattle.pipeline.specs.declared.Executed.{Executed}
+pub use Rattle.pipeline.specs.declared.Executed.the-variants.{Refused as NotExecuted, Done}
+pub use Rattle.pipeline.specs.declared.DecodedId.{DecodedId}
+pub use Rattle.pipeline.specs.declared.DecodedId.the-variants.{Refused as NotDecoded, Latch as DecodedTo}
+pub use Rattle.pipeline.specs.declared.Sources.{Sources}
+pub use Rattle.pipeline.specs.declared.Sources.the-variants.{Refused as NoSources, Two}
+pub use Rattle.pipeline.specs.declared.MulDiv.{MulDiv}
+pub use Rattle.pipeline.specs.declared.MulDiv.the-variants.{Refused as NotMulDiv, None as NoLatency, Latency}
+pub use Rattle.pipeline.specs.declared.Hazard.{Hazard}
+pub use Rattle.pipeline.specs.declared.Hazard.the-variants.{Refused as NoHazardTest, Waits}

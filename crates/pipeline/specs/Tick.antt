@@ -63,16 +63,17 @@ unfoldable pub verdict : Tests → PipelineCpu → Result
 verdict pass s = moved s
 verdict (test b n c) s = cond b (refused n) (verdict c s)
 
-unfoldable pub tests : PipelineCpu → Given → Tests
-tests s t =
-    test (broken s) 11
-    (test (stuck s) 12
-    (test (brimming s) 13
-    (test (badOffer (t .offer)) 1
+-- what the tick is given
+unfoldable pub givenTests : PipelineCpu → Given → Tests
+givenTests s t =
+    test (badOffer (t .offer)) 1
     (test (mfsrOffer (t .offer)) 2
     (test (not (fitsOffer (wantFetch s) ((fetchAt s) .1) (t .offer))) 3
     (test (not (same (wantLoad s) (isAnswer (t .answer)))) 4
-    pass))))))
+    pass)))
+
+unfoldable pub tests : PipelineCpu → Given → Tests
+tests s t = test (broken s) 11 (test (stuck s) 12 (test (brimming s) 13 (givenTests s t)))
 
 unfoldable pub tick : PipelineCpu → Given → Result
 tick s t = verdict (tests s t) (next s (taken t))

@@ -1,5 +1,17 @@
 // The pipeline: its state, what a tick is given, what asking names, and how a tick ends.
+mod advance;
+mod ask;
+mod execute;
+pub mod parts;
+mod planning;
+mod refusals;
+mod retire;
+mod start;
+mod tick;
+
+use isa::Decoded;
 use isa::Mode;
+use isa::Operands;
 use isa::RawInstr;
 use isa::Redirect;
 use isa::Request;
@@ -81,10 +93,8 @@ pub enum Asked {
 
 // The state but for the registers, which are lent beside it while ticks are done.
 pub struct Stages {
-    pub fetch_pc: u32,
-    pub fetch_mode: Mode,
-    pub retire_pc: u32,
-    pub retire_mode: Mode,
+    pub fetch_at: Place,
+    pub retire_at: Place,
     pub running: bool,
     pub user: bool,
     pub features: u32,
@@ -111,14 +121,66 @@ pub enum Move {
     Redirect(u32, Mode),
 }
 
-// A move, and the next EX/MEM.
-pub struct Decision {
-    pub step: Move,
-    pub ex_mem: ExMem,
-}
-
 // An address and its mode.
 pub struct Place {
     pub pc: u32,
     pub mode: Mode,
+}
+
+// What IF/ID holds, decoded, with its operands and the prediction.
+pub struct Front {
+    pub decoded: Decoded,
+    pub operands: Operands,
+    pub predicted: Redirect,
+}
+
+// What a tick plans once MEM/WB has retired: its move, the next EX/MEM, the front, the place to fetch from.
+pub struct Plan {
+    pub step: Move,
+    pub ex_mem: ExMem,
+    pub front: Front,
+    pub place: Place,
+}
+
+// The answer of `forwarded` by itself.
+pub enum Forwarded {
+    Refused(u32),
+    Word(u32),
+}
+
+// The next EX/MEM of a latch, and the way that its instruction goes.
+pub struct Execution {
+    pub ex_mem: ExMem,
+    pub redirect: Redirect,
+}
+
+// The answer of `execute_ex` by itself.
+pub enum Executed {
+    Refused(u32),
+    Done(Execution),
+}
+
+// The answer of `decode_id` by itself.
+pub enum DecodedId {
+    Refused(u32),
+    Latch(IdEx),
+}
+
+// The answer of `id_sources` by itself.
+pub enum Sources {
+    Refused(u32),
+    Two(u8, u8),
+}
+
+// The answer of `is_mul_div` by itself.
+pub enum MulDiv {
+    Refused(u32),
+    None,
+    Latency(u32),
+}
+
+// The answer of `load_use_hazard` by itself.
+pub enum Hazard {
+    Refused(u32),
+    Waits(bool),
 }

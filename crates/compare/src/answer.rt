@@ -1,0 +1,194 @@
+// Cases that stand alone, by the first number of their line.
+use crate::listed::agree;
+use crate::number::of_byte;
+use crate::place::byte;
+use crate::place::set_flag;
+use crate::read_instruction::decoded;
+use crate::read_latch::id_ex;
+use crate::read_latch::if_id;
+use crate::read_state::given;
+use crate::read_state::started;
+use crate::read_state::state;
+use crate::write_latch::set_ex_mem;
+use crate::write_latch::set_id_ex;
+use crate::write_state::set_asked;
+use crate::write_state::set_redirect;
+use crate::write_state::set_state;
+use pipeline::DecodedId;
+use pipeline::Executed;
+use pipeline::Forwarded;
+use pipeline::Hazard;
+use pipeline::MulDiv;
+use pipeline::Outcome;
+use pipeline::Sources;
+use pipeline::Ticked;
+
+// The line that answers: none, or the numbers from one place to another.
+pub enum Reply {
+    Silent,
+    Numbers(usize, usize),
+}
+
+fn refused(n: &mut [u32; 192], code: u32) -> Reply {
+    n[0] = code;
+    Reply::Numbers(0, 1)
+}
+
+fn accepted(n: &mut [u32; 192], end: usize) -> Reply {
+    n[0] = 0;
+    Reply::Numbers(0, end)
+}
+
+pub fn code_of(o: Outcome) -> u32 {
+    match o {
+        Outcome::Accepted => 0,
+        Outcome::Refused(code) => code,
+    }
+}
+
+fn with_state(n: &mut [u32; 192], t: Ticked) -> Reply {
+    let state = t.state;
+    let outcome = t.outcome;
+    n[0] = code_of(outcome);
+    set_state(n, state);
+    Reply::Numbers(0, 121)
+}
+
+fn tick(n: &mut [u32; 192]) -> Reply {
+    let t = state(n).tick(given(n, 121));
+    with_state(n, t)
+}
+
+fn ask(n: &mut [u32; 192]) -> Reply {
+    let a = state(n).ask();
+    set_asked(n, a);
+    Reply::Numbers(0, 8)
+}
+
+fn forwarded(n: &mut [u32; 192]) -> Reply {
+    match state(n).forwarded(byte(n, 121, 0)) {
+        Forwarded::Refused(code) => refused(n, code),
+        Forwarded::Word(word) => {
+            n[1] = word;
+            accepted(n, 2)
+        }
+    }
+}
+
+fn execute(n: &mut [u32; 192]) -> Reply {
+    match state(n).execute_ex(id_ex(n, 121)) {
+        Executed::Refused(code) => refused(n, code),
+        Executed::Done(e) => {
+            let ex_mem = e.ex_mem;
+            let redirect = e.redirect;
+            set_ex_mem(n, 1, ex_mem);
+            set_redirect(n, 28, redirect);
+            accepted(n, 31)
+        }
+    }
+}
+
+fn decode(n: &mut [u32; 192]) -> Reply {
+    match state(n).decode_id(if_id(n, 121)) {
+        DecodedId::Refused(code) => refused(n, code),
+        DecodedId::Latch(l) => {
+            set_id_ex(n, 1, l);
+            accepted(n, 19)
+        }
+    }
+}
+
+fn sources(n: &mut [u32; 192]) -> Reply {
+    match pipeline::parts::id_sources(if_id(n, 1)) {
+        Sources::Refused(code) => refused(n, code),
+        Sources::Two(a, b) => {
+            n[1] = of_byte(a);
+            n[2] = of_byte(b);
+            accepted(n, 3)
+        }
+    }
+}
+
+fn latency(n: &mut [u32; 192]) -> Reply {
+    match pipeline::parts::is_mul_div(decoded(n, 1, 0)) {
+        MulDiv::Refused(code) => refused(n, code),
+        MulDiv::None => {
+            n[1] = 0;
+            accepted(n, 2)
+        }
+        MulDiv::Latency(ticks) => {
+            n[1] = ticks;
+            accepted(n, 2)
+        }
+    }
+}
+
+fn hazard(n: &mut [u32; 192]) -> Reply {
+    match pipeline::parts::load_use_hazard(id_ex(n, 1), byte(n, 19, 0), byte(n, 20, 0)) {
+        Hazard::Refused(code) => refused(n, code),
+        Hazard::Waits(waits) => {
+            set_flag(n, 1, 0, waits);
+            accepted(n, 2)
+        }
+    }
+}
+
+fn retire(n: &mut [u32; 192]) -> Reply {
+    let t = state(n).retire();
+    let outcome = t.outcome;
+    match outcome {
+        Outcome::Refused(code) => refused(n, code),
+        Outcome::Accepted => with_state(n, t),
+    }
+}
+
+// 1 for a listed answer that is right, 0 for one that is not.
+fn listed(n: &mut [u32; 192]) -> Reply {
+    let right = agree(n);
+    set_flag(n, 1, 0, right);
+    Reply::Numbers(1, 2)
+}
+
+fn start(n: &mut [u32; 192]) -> Reply {
+    let s = started(n);
+    set_state(n, s);
+    Reply::Numbers(1, 121)
+}
+
+// How many numbers a line has, or 0 where its first number is no case's.
+pub fn length_of(kind: u32) -> usize {
+    match kind {
+        0x1 | 0x2 => 6,
+        0x3 => 14,
+        0x4 => 11,
+        0x5 => 128,
+        0x6 | 0xD => 121,
+        0x7 => 122,
+        0x8 => 139,
+        0x9 => 129,
+        0xA => 9,
+        0xB => 6,
+        0xC => 21,
+        0xE | 0xF => 37,
+        0x10 => 8,
+        0x11 => 1,
+        _ => 0,
+    }
+}
+
+// Answers a case with what the proved functions give.
+pub fn answer(n: &mut [u32; 192]) -> Reply {
+    match n[0] {
+        0x1 | 0x2 | 0x3 | 0x4 => listed(n),
+        0x5 => tick(n),
+        0x6 => ask(n),
+        0x7 => forwarded(n),
+        0x8 => execute(n),
+        0x9 => decode(n),
+        0xA => sources(n),
+        0xB => latency(n),
+        0xC => hazard(n),
+        0xD => retire(n),
+        _ => start(n),
+    }
+}

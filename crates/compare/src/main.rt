@@ -1,0 +1,61 @@
+// Reads case lines from standard input and writes what the proved functions answer, a line for each.
+mod answer;
+mod build;
+mod coded;
+mod codes;
+mod input;
+mod list;
+mod listed;
+mod number;
+mod output;
+mod place;
+mod read_instruction;
+mod read_latch;
+mod read_state;
+mod run;
+mod write_instruction;
+mod write_latch;
+mod write_state;
+
+use crate::answer::Reply;
+use crate::input::Input;
+use crate::list::answered;
+use crate::list::nowhere;
+use crate::output::flushed;
+use crate::output::put_line;
+use crate::output::with_room;
+
+// Puts a reply at `to` and answers where the next one goes.
+fn put(r: Reply, n: &[u32; 192], out: &mut [u8], to: usize) -> usize {
+    match r {
+        Reply::Silent => to,
+        Reply::Numbers(from, end) => {
+            let next = put_line(out, to, n, from, end);
+            with_room(out, next)
+        }
+    }
+}
+
+// Answers to the end of the input. Nothing says that it ends, so the turns are counted down.
+fn answer_all(buf: &mut [u8], out: &mut [u8]) {
+    let mut numbers = [0u32; 192];
+    let mut held = nowhere();
+    let mut i = Input::new();
+    let mut to: usize = 0;
+    let mut turns = u64::MAX;
+    while turns > 0 && i.open {
+        i = i.next_line(buf, &mut numbers);
+        let a = answered(held, i, &mut numbers);
+        let reply = a.reply;
+        held = a.held;
+        to = put(reply, &numbers, out, to);
+        turns -= 1;
+    }
+    flushed(out, to);
+}
+
+fn main() {
+    let mut buf = io::large_buffer();
+    let mut out = io::large_buffer();
+    answer_all(&mut buf, &mut out);
+}

@@ -1,0 +1,75 @@
+// The state, what start is given and what a tick is given, read from a line.
+use crate::codes::to_mode;
+use crate::place::counter;
+use crate::place::flag;
+use crate::place::num;
+use crate::read_instruction::raw_behind;
+use crate::read_latch::ex_mem;
+use crate::read_latch::id_ex;
+use crate::read_latch::if_id;
+use crate::read_latch::mem_wb;
+use pipeline::Answer;
+use pipeline::Given;
+use pipeline::Offer;
+use pipeline::PipelineCpu;
+
+// The registers, which stand first.
+fn registers(n: &[u32; 192]) -> [u32; 32] {
+    let mut reg = [0u32; 32];
+    let mut i: usize = 0;
+    while i < 32 {
+        reg[i] = num(n, i, 1);
+        i += 1;
+    }
+    reg
+}
+
+pub fn state(n: &[u32; 192]) -> PipelineCpu {
+    PipelineCpu {
+        reg: registers(n),
+        fetch_pc: n[33],
+        fetch_mode: to_mode(n[34]),
+        retire_pc: n[35],
+        retire_mode: to_mode(n[36]),
+        running: flag(n, 37, 0),
+        user: flag(n, 38, 0),
+        features: n[39],
+        if_id: if_id(n, 40),
+        id_ex: id_ex(n, 48),
+        ex_mem: ex_mem(n, 66),
+        mem_wb: mem_wb(n, 93),
+        ex_cycles_left: n[109],
+        ex_armed: flag(n, 110, 0),
+        cycles: counter(n, 111, 0),
+        running_cycles: counter(n, 113, 0),
+        instructions_executed: counter(n, 115, 0),
+        stall_cycles: counter(n, 117, 0),
+        flush_events: counter(n, 119, 0),
+    }
+}
+
+pub fn started(n: &[u32; 192]) -> PipelineCpu {
+    PipelineCpu::start(registers(n), n[33], to_mode(n[34]), flag(n, 35, 0), n[36])
+}
+
+fn offer(n: &[u32; 192], at: usize) -> Offer {
+    let tag = num(n, at, 0);
+    if tag == 0 {
+        return Offer::Nothing;
+    }
+    Offer::Instr(raw_behind(n, at, tag == 2))
+}
+
+fn answer(n: &[u32; 192], at: usize) -> Answer {
+    if flag(n, at, 5) {
+        return Answer::Word(num(n, at, 6));
+    }
+    Answer::None
+}
+
+pub fn given(n: &[u32; 192], at: usize) -> Given {
+    Given {
+        offer: offer(n, at),
+        answer: answer(n, at),
+    }
+}

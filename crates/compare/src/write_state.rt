@@ -1,0 +1,102 @@
+// The state and what asking names, written to a line behind its first number.
+use crate::codes::of_mode;
+use crate::number::of_byte;
+use crate::place::set;
+use crate::place::set_counter;
+use crate::place::set_flag;
+use crate::place::set_three;
+use crate::write_latch::set_ex_mem;
+use crate::write_latch::set_id_ex;
+use crate::write_latch::set_if_id;
+use crate::write_latch::set_mem_wb;
+use isa::Redirect;
+use isa::Request;
+use pipeline::Asked;
+use pipeline::Fetch;
+use pipeline::PipelineCpu;
+
+fn set_registers(n: &mut [u32; 192], reg: [u32; 32]) {
+    let mut i: usize = 0;
+    while i < 32 {
+        set(n, i, 1, reg[i]);
+        i += 1;
+    }
+}
+
+fn set_latches(n: &mut [u32; 192], s: PipelineCpu) {
+    let if_id = s.if_id;
+    let id_ex = s.id_ex;
+    let ex_mem = s.ex_mem;
+    let mem_wb = s.mem_wb;
+    set_if_id(n, 40, if_id);
+    set_id_ex(n, 48, id_ex);
+    set_ex_mem(n, 66, ex_mem);
+    set_mem_wb(n, 93, mem_wb);
+}
+
+pub fn set_state(n: &mut [u32; 192], s: PipelineCpu) {
+    let reg = s.reg;
+    let fetch_mode = s.fetch_mode;
+    let retire_mode = s.retire_mode;
+    set_registers(n, reg);
+    n[33] = s.fetch_pc;
+    n[34] = of_mode(fetch_mode);
+    n[35] = s.retire_pc;
+    n[36] = of_mode(retire_mode);
+    set_flag(n, 37, 0, s.running);
+    set_flag(n, 38, 0, s.user);
+    n[39] = s.features;
+    set_latches(n, s);
+    n[109] = s.ex_cycles_left;
+    set_flag(n, 110, 0, s.ex_armed);
+    set_counter(n, 111, 0, s.cycles);
+    set_counter(n, 113, 0, s.running_cycles);
+    set_counter(n, 115, 0, s.instructions_executed);
+    set_counter(n, 117, 0, s.stall_cycles);
+    set_counter(n, 119, 0, s.flush_events);
+}
+
+fn set_fetch(n: &mut [u32; 192], f: Fetch) {
+    match f {
+        Fetch::None => set_three(n, 1, 0, 0, 0, 0),
+        Fetch::From(pc, mode) => set_three(n, 1, 0, 1, pc, of_mode(mode)),
+    }
+}
+
+fn set_memory(n: &mut [u32; 192], kind: u32, addr: u32, width: u8, word: u32) {
+    set_three(n, 4, 0, kind, addr, of_byte(width));
+    n[7] = word;
+}
+
+fn set_request(n: &mut [u32; 192], r: Request) {
+    match r {
+        Request::None => set_memory(n, 0, 0, 0, 0),
+        Request::Load { addr, width } => set_memory(n, 1, addr, width, 0),
+        Request::Store { addr, width, word } => set_memory(n, 2, addr, width, word),
+    }
+}
+
+// The code, and what is wanted, which is nothing where asking is refused.
+pub fn set_asked(n: &mut [u32; 192], a: Asked) {
+    match a {
+        Asked::Refused(code) => {
+            n[0] = code;
+            set_fetch(n, Fetch::None);
+            set_request(n, Request::None);
+        }
+        Asked::Wants(w) => {
+            let fetch = w.fetch;
+            let request = w.request;
+            n[0] = 0;
+            set_fetch(n, fetch);
+            set_request(n, request);
+        }
+    }
+}
+
+pub fn set_redirect(n: &mut [u32; 192], at: usize, r: Redirect) {
+    match r {
+        Redirect::Next => set_three(n, at, 0, 0, 0, 0),
+        Redirect::To(target, mode) => set_three(n, at, 0, 1, target, of_mode(mode)),
+    }
+}

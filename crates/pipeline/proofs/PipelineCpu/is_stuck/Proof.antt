@@ -1,0 +1,12 @@
+-- `pipeline::PipelineCpu::is_stuck` meets its contract. Assumes nothing.
+use borrow.Author.Needs.{needs}
+use Rattle.pipeline.specs.Advance.{awake}
+use Rattle.pipeline.specs.Ask.{stuck}
+use Rattle.pipeline.proofs.PipelineCpu.is_stuck.Statement.{statement}
+use Rattle.pipeline.proofs.PipelineCpu.is_stuck.Tie as tie
+
+pub is-stuck-spec : {M : Type 1} → statement M
+unfolding stuck awake
+is-stuck-spec = tie.close (tie.spec
+    (λ c κs. search needs)
+    (λ c. rw (c .before .is-faulty .ensures)))

@@ -1,0 +1,12 @@
+-- `pipeline::PipelineCpu::start` meets its contract. Assumes nothing.
+use borrow.Author.Needs.{needs}
+use Rattle.pipeline.specs.Stages.{started, view}
+use Rattle.pipeline.specs.Start.{fresh}
+use Rattle.pipeline.proofs.PipelineCpu.start.Statement.{statement}
+use Rattle.pipeline.proofs.PipelineCpu.start.Tie as tie
+
+pub start-spec : {M : Type 1} → statement M
+unfolding fresh view started
+start-spec = tie.close (tie.spec
+    (λ c. search needs) (λ c κs. search needs) (λ c κs. search needs)
+    (λ c. simp (c .with .ensures, c .before .start .ensures)))

@@ -1,0 +1,236 @@
+-- A tick of a running machine, by the stages that retirement leaves and their plan.
+use Prim.Native.Nat.{_<_, ℕ}
+use mathlib.Core.Bool.{Bool, _&&_, cond, true}
+use mathlib.Core.List.{List, []}
+use mathlib.Core.Path.{_∙_, _≡_, ap, refl, subst, sym}
+use Rattle.isa.proofs.Bools.{split}
+use Rattle.isa.specs.Waits.{predict}
+use Rattle.latch.specs.Decode.{decodePredicted, idExOf}
+use Rattle.latch.specs.Memory.{loads, requestIn, requests}
+use Rattle.pipeline.proofs.Refusing.{tickCode}
+use Rattle.pipeline.specs.Advance.{Taken, advance, advanceBy, awake, next, resting}
+use Rattle.pipeline.specs.Ask.{asks, fetchAt, fetchOf, wantFetch, wantLoad}
+use Rattle.pipeline.specs.Codes.{Counts, givenCode, planFetches, stageLoads, wanted}
+use Rattle.pipeline.specs.Fetch.{fetchPlace, fetches, nextIdEx, predicted}
+use Rattle.pipeline.specs.Move.{move, nextExMem}
+use Rattle.pipeline.specs.Names.{Fetch, Given, IdEx, Mode, Move, PipelineCpu, Plan, RawInstr, Request, Stages}
+use Rattle.pipeline.specs.Names.{beginWait, keepWaiting, loadUseStall, proceed, redirect}
+use Rattle.pipeline.specs.Retire.{retire}
+use Rattle.pipeline.specs.Stages.{Room, frontOf, idExFrom, placeFrom, planOf, predictIf, stagesOf, view}
+use Rattle.pipeline.specs.Tick.{rawOf, taken, wordIn}
+
+pub view-stages : (s : PipelineCpu) → view (stagesOf s) (s .reg) ≡ s
+unfolding view stagesOf
+view-stages s = refl
+
+place-fetch :
+    (m : Move) →
+    (s : PipelineCpu) → (
+      (placeFrom m ((frontOf (s .«if_id»)) .predicted) (s .«fetch_pc») (s .«fetch_mode»)) .pc,
+      (placeFrom m ((frontOf (s .«if_id»)) .predicted) (s .«fetch_pc») (s .«fetch_mode»)) .mode,
+    )
+    ≡ fetchPlace m s
+unfolding placeFrom fetchPlace frontOf predictIf predicted predict
+place-fetch keepWaiting s = refl
+place-fetch beginWait s = refl
+place-fetch (loadUseStall g) s = refl
+place-fetch proceed s = refl
+place-fetch (redirect p m) s = refl
+
+pub plan-place : (s : PipelineCpu) → (((planOf s) .place) .pc, ((planOf s) .place) .mode) ≡ fetchPlace (move s) s
+unfolding planOf
+plan-place s = place-fetch (move s) s
+
+-- the wants of a tick, by the stages
+pub want-fetch :
+    (s : PipelineCpu) →
+    (l : Stages) →
+    (rs : List ℕ) →
+    (p : Plan) →
+    view l rs ≡ retire s →
+    p ≡ planOf (view l rs) →
+    s .running ≡ true →
+    planFetches l p ≡ wantFetch s
+unfolding planFetches wantFetch awake planOf view
+want-fetch s l rs p e q r =
+    ap (λ (y : Plan). l .running && fetches (y .step)) q
+    ∙ ap (λ (v : PipelineCpu). v .running && fetches (move v)) e
+    ∙ sym (ap (λ (b : Bool). b && ((retire s) .running && fetches (move (retire s)))) r)
+
+pub want-load :
+    (s : PipelineCpu) → (l : Stages) → (rs : List ℕ) → view l rs ≡ retire s → s .running ≡ true → stageLoads l ≡
+    wantLoad s
+unfolding stageLoads wantLoad awake view
+want-load s l rs e r =
+    ap (λ (v : PipelineCpu). (v .«ex_mem») .valid && loads (v .«ex_mem»)) e
+    ∙ sym (ap (λ (b : Bool). b && (((retire s) .«ex_mem») .valid && loads ((retire s) .«ex_mem»))) r)
+
+pub fetch-at :
+    (s : PipelineCpu) →
+    (l : Stages) →
+    (rs : List ℕ) →
+    (p : Plan) →
+    view l rs ≡ retire s →
+    p ≡ planOf (view l rs) →
+    ((p .place) .pc, (p .place) .mode) ≡ fetchAt s
+unfolding fetchAt
+fetch-at s l rs p e q = rw (q, sym e) (plan-place (view l rs))
+
+id-ex-next : (s : PipelineCpu) → idExFrom (s .«if_id») (frontOf (s .«if_id»)) (s .reg) ≡ nextIdEx s
+unfolding idExFrom frontOf nextIdEx decodePredicted idExOf predictIf predict
+id-ex-next s = split ((s .«if_id») .valid) (λ e. rw e) (λ e. rw e)
+
+planned :
+    (v : PipelineCpu) →
+    (x : Taken) →
+    advanceBy ((planOf v) .step) ((planOf v) .«ex_mem») (idExFrom (v .«if_id») ((planOf v) .front) (v .reg))
+    (fetchPlace (move v) v) v x
+    ≡ advanceBy (move v) (nextExMem (move v) v) (nextIdEx v) (fetchPlace (move v) v) v x
+unfolding planOf
+planned v x = ap (λ (d : IdEx). advanceBy (move v) (nextExMem (move v) v) d (fetchPlace (move v) v) v x)
+    (id-ex-next v)
+
+advanced :
+    (v : PipelineCpu) →
+    (x : Taken) →
+    advanceBy ((planOf v) .step) ((planOf v) .«ex_mem») (idExFrom (v .«if_id») ((planOf v) .front) (v .reg))
+    (((planOf v) .place) .pc, ((planOf v) .place) .mode) v x
+    ≡ advance (move v) v x
+unfolding advance
+advanced v x =
+    ap (λ (p : ℕ × Mode). advanceBy ((planOf v) .step) ((planOf v) .«ex_mem»)
+    (idExFrom (v .«if_id») ((planOf v) .front) (v .reg)) p v x)
+    (plan-place v)
+    ∙ planned v x
+
+by-stages :
+    (l : Stages) →
+    (rs : List ℕ) →
+    (x : Taken) →
+    advanceBy ((planOf (view l rs)) .step) ((planOf (view l rs)) .«ex_mem»)
+    (idExFrom (l .«if_id») ((planOf (view l rs)) .front) rs)
+    (((planOf (view l rs)) .place) .pc, ((planOf (view l rs)) .place) .mode) (view l rs) x
+    ≡ advance (move (view l rs)) (view l rs) x
+unfolding view
+by-stages l rs x = advanced (view l rs) x
+
+-- the state after the tick, by the stages after the move of the plan
+pub advance-next :
+    (s : PipelineCpu) →
+    (l a : Stages) →
+    (rs : List ℕ) →
+    (p : Plan) →
+    (t : Given) →
+    view l rs ≡ retire s →
+    p ≡ planOf (view l rs) →
+    s .running ≡ true →
+    view a rs
+    ≡ advanceBy (p .step) (p .«ex_mem») (idExFrom (l .«if_id») (p .front) rs) ((p .place) .pc, (p .place) .mode)
+    (view l rs) (taken t) →
+    view a rs ≡ next s (taken t)
+unfolding next awake
+advance-next s l a rs p t e q r h =
+    h
+    ∙ ap (λ (y : Plan). advanceBy (y .step) (y .«ex_mem») (idExFrom (l .«if_id») (y .front) rs)
+    ((y .place) .pc, (y .place) .mode) (view l rs) (taken t)) q
+    ∙ by-stages l rs (taken t)
+    ∙ ap (λ (v : PipelineCpu). advance (move v) v (taken t)) e
+    ∙ sym (ap (λ (b : Bool). cond b (advance (move (retire s)) (retire s) (taken t)) (resting s)) r)
+
+pub retired-view :
+    (s : PipelineCpu) →
+    (l l0 : Stages) →
+    (rs : List ℕ) →
+    l0 ≡ stagesOf s →
+    view l rs ≡ retire (view l0 (s .reg)) →
+    view l rs ≡ retire s
+retired-view s l l0 rs e h =
+    h ∙ ap (λ (v : PipelineCpu). retire v) (ap (λ (x : Stages). view x (s .reg)) e ∙ view-stages s)
+
+pub room-after : (s : PipelineCpu) → (l : Stages) → (rs : List ℕ) → view l rs ≡ retire s → Counts s → Room l
+unfolding view retire
+room-after s l rs e c = record {
+  cycles = subst (λ n. n < 18446744073709551615) (sym (ap (λ (v : PipelineCpu). v .cycles) e)) (c .cycles);
+  «running_cycles» = subst (λ n. n < 18446744073709551615) (sym (ap (λ (v : PipelineCpu). v .«running_cycles») e))
+      (c .«running_cycles»);
+  «stall_cycles» = subst (λ n. n < 18446744073709551615) (sym (ap (λ (v : PipelineCpu). v .«stall_cycles») e))
+      (c .«stall_cycles»);
+  «flush_events» = subst (λ n. n < 18446744073709551615) (sym (ap (λ (v : PipelineCpu). v .«flush_events») e))
+      (c .«flush_events»);
+}
+
+pub run-wants :
+    (s : PipelineCpu) →
+    (l : Stages) →
+    (rs : List ℕ) →
+    (p : Plan) →
+    (b : Bool) →
+    (f : Fetch) →
+    (x : Request) →
+    view l rs ≡ retire s →
+    p ≡ planOf (view l rs) →
+    s .running ≡ true →
+    b ≡ planFetches l p →
+    f ≡ fetchOf b ((p .place) .pc, (p .place) .mode) →
+    x ≡ requestIn (requests (l .«ex_mem»)) →
+    record { fetch = f; request = x } ≡ wanted s
+unfolding wanted asks awake view
+run-wants s l rs p b f x e q r eb ef ex =
+    ap (λ (y : Fetch). record { fetch = y; request = x })
+    (ef
+    ∙ ap (λ (y : Bool). fetchOf y ((p .place) .pc, (p .place) .mode)) (eb ∙ want-fetch s l rs p e q r)
+    ∙ ap (λ (y : ℕ × Mode). fetchOf (wantFetch s) y) (fetch-at s l rs p e q))
+    ∙ ap (λ (y : Request). record { fetch = fetchOf (wantFetch s) (fetchAt s); request = y })
+    (ex
+    ∙ ap (λ (v : PipelineCpu). requestIn (requests (v .«ex_mem»))) e
+    ∙ sym (ap (λ (y : Bool). requestIn (cond y (requests ((retire s) .«ex_mem»)) [])) r))
+
+pub run-code :
+    (s : PipelineCpu) →
+    (l : Stages) →
+    (rs : List ℕ) →
+    (p : Plan) →
+    (t : Given) →
+    (k : ℕ) →
+    (b d : Bool) →
+    view l rs ≡ retire s →
+    p ≡ planOf (view l rs) →
+    s .running ≡ true →
+    b ≡ planFetches l p →
+    d ≡ stageLoads l →
+    k ≡ givenCode b ((p .place) .mode) d t →
+    k ≡ tickCode s t
+unfolding tickCode
+run-code s l rs p t k b d e q r eb ed ek =
+    ek
+    ∙ ap (λ (y : Bool). givenCode y ((p .place) .mode) d t) (eb ∙ want-fetch s l rs p e q r)
+    ∙ ap (λ (y : ℕ × Mode). givenCode (wantFetch s) (y .1) d t) (fetch-at s l rs p e q)
+    ∙ ap (λ (y : Bool). givenCode (wantFetch s) ((fetchAt s) .1) y t) (ed ∙ want-load s l rs e r)
+
+pub run-next :
+    (s : PipelineCpu) →
+    (l a : Stages) →
+    (rs : List ℕ) →
+    (p : Plan) →
+    (t : Given) →
+    (w : ℕ) →
+    (i : RawInstr) →
+    view l rs ≡ retire s →
+    p ≡ planOf (view l rs) →
+    s .running ≡ true →
+    w ≡ wordIn (t .answer) →
+    i ≡ rawOf (t .offer) →
+    view a rs
+    ≡ advanceBy (p .step) (p .«ex_mem») (idExFrom (l .«if_id») (p .front) rs) ((p .place) .pc, (p .place) .mode)
+    (view l rs) (record { answer = w; raw = i }) →
+    view a rs ≡ next s (taken t)
+unfolding taken
+run-next s l a rs p t w i e q r ew ei h =
+    advance-next s l a rs p t e q r
+    (h
+    ∙ ap (λ (y : ℕ). advanceBy (p .step) (p .«ex_mem») (idExFrom (l .«if_id») (p .front) rs)
+    ((p .place) .pc, (p .place) .mode) (view l rs) (record { answer = y; raw = i }))
+    ew
+    ∙ ap (λ (y : RawInstr). advanceBy (p .step) (p .«ex_mem») (idExFrom (l .«if_id») (p .front) rs)
+    ((p .place) .pc, (p .place) .mode) (view l rs) (record { answer = wordIn (t .answer); raw = y }))
+    ei)

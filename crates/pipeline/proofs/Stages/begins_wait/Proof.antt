@@ -1,0 +1,11 @@
+-- `pipeline::Stages::begins_wait` meets its contract. Assumes nothing.
+use borrow.Author.Needs.{needs}
+use Rattle.pipeline.specs.Stages.{beginsWait}
+use Rattle.pipeline.proofs.Stages.begins_wait.Statement.{statement}
+use Rattle.pipeline.proofs.Stages.begins_wait.Tie as tie
+
+pub begins-wait-spec : {M : Type 1} → statement M
+unfolding beginsWait
+begins-wait-spec = tie.close (tie.spec
+    (λ c κs. search needs)
+    (λ c. rw (c .is-slow .ensures)))

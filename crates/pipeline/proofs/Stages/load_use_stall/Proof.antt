@@ -1,0 +1,23 @@
+-- `pipeline::Stages::load_use_stall` meets its contract. Assumes nothing.
+use borrow.Author.Needs.{needs}
+use Rattle.pipeline.specs.Advance.{advanceBy}
+use Rattle.pipeline.specs.Stages.{Advances, Holds, shifted, view}
+use Rattle.pipeline.proofs.Stages.load_use_stall.Statement.{statement}
+use Rattle.pipeline.proofs.Stages.load_use_stall.Tie as tie
+
+pub load-use-stall-spec : {M : Type 1} → statement M
+unfolding Holds Advances view advanceBy shifted
+load-use-stall-spec = tie.close (tie.spec
+    (λ c κs. search needs) (λ c κs. search needs) (λ c. search needs) (λ c κs. search needs)
+    (λ c κs. search needs) (λ c κs. search needs) (λ c κs. search needs) (λ c κs. search needs)
+    (λ c κs. search needs)
+    (λ c d p i rs. simp (
+      c .sel .ensures,
+      c .before .shift .ensures,
+      c .before .before .invalid .ensures,
+      c .before .before .before .stalled .ensures,
+      c .before .before .before .before .mode-or .ensures,
+      c .before .before .before .before .before .target-or .ensures,
+      c .before .before .before .before .before .before .before .before .before .more .ensures,
+      c .before .before .before .before .before .before .before .before .before .before .is-to .ensures,
+    )))

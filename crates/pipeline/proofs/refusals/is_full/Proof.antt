@@ -1,0 +1,16 @@
+-- `pipeline::refusals::is_full` meets its contract. Assumes nothing.
+use borrow.Author.Tests.{eqb-false}
+use mathlib.Core.Path.{refl}
+use native.Mathlib.Omega.{arith}
+use Rattle.pipeline.specs.Ask.{isFull}
+use Rattle.pipeline.proofs.refusals.is_full.Statement.{statement}
+use Rattle.pipeline.proofs.refusals.is_full.Tie as tie
+
+pub is-full-spec : {M : Type 1} → statement M
+unfolding isFull
+is-full-spec = tie.close (tie.spec
+    (λ c. record {
+      is = refl;
+      room = λ e. let ne = eqb-false (c .args .n) 18446744073709551615 e in let f = c .fits .n in omega
+          (arith, ne, f);
+    }))

@@ -1,0 +1,51 @@
+-- The parts of the tick called by themselves: 11 where what a part is handed breaks the bounds.
+use Prim.Native.Nat.{ℕ}
+use lib.Dec.{ltb}
+use mathlib.Core.Bool.{_||_, cond}
+use Rattle.isa.specs.Operands.{operandsOf}
+use Rattle.isa.specs.Short.{decodedOf}
+use Rattle.latch.specs.Bounds.{badDecoded, badIdEx, badIfId}
+use Rattle.latch.specs.Decode.{decodeId, loadUse}
+use Rattle.latch.specs.Execute.{exMemOf}
+use Rattle.pipeline.specs.Ask.{brimming, broken, stuck}
+use Rattle.pipeline.specs.Execute.{effectFor}
+use Rattle.pipeline.specs.Forwarding.{forwarded}
+use Rattle.pipeline.specs.Names.{Decoded, DecodedId, DecodedTo, Done, Executed, Forwarded, ForwardedWord}
+use Rattle.pipeline.specs.Names.{Hazard, IdEx, IfId, Latency, MulDiv, NoHazardTest, NoLatency, NoSources}
+use Rattle.pipeline.specs.Names.{NotDecoded, NotExecuted, NotForwarded, NotMulDiv, PipelineCpu, Sources}
+use Rattle.pipeline.specs.Names.{Ticked, Two, Waits, redirect}
+use Rattle.pipeline.specs.Retire.{retire}
+use Rattle.pipeline.specs.Tick.{handedBack, pass, test, verdict}
+
+unfoldable pub forwardedPart : PipelineCpu → ℕ → Forwarded
+forwardedPart s r = cond (broken s || ltb 31 r) (NotForwarded 11) (ForwardedWord (forwarded s r))
+
+-- execute_ex reads neither whether the latch is valid nor what was predicted
+unfoldable pub executePart : PipelineCpu → IdEx → Executed
+executePart s l =
+    cond (broken s || badIdEx l) (NotExecuted 11)
+    (Done (record { «ex_mem» = exMemOf l (effectFor s l); redirect = (effectFor s l) .redirect }))
+
+unfoldable pub decodePart : PipelineCpu → IfId → DecodedId
+decodePart s l = cond (broken s || badIfId l) (NotDecoded 11) (DecodedTo (decodeId l (s .reg)))
+
+unfoldable pub sourcesPart : IfId → Sources
+sourcesPart l =
+    cond (badIfId l) (NoSources 11)
+    (Two ((operandsOf (decodedOf (l .raw))) .«src_a») ((operandsOf (decodedOf (l .raw))) .«src_b»))
+
+-- is_mul_div: the latency of a multiply or divide, which is one more than its wait; none for any other
+unfoldable pub latencyFrom : ℕ → MulDiv
+latencyFrom n = cond (ltb 0 n) (Latency n) NoLatency
+
+unfoldable pub mulDivPart : Decoded → MulDiv
+mulDivPart d = cond (badDecoded d) (NotMulDiv 11) (latencyFrom ((operandsOf d) .latency))
+
+unfoldable pub hazardPart : IdEx → ℕ → ℕ → Hazard
+hazardPart l a b =
+    cond (badIdEx l || (ltb 31 a || ltb 31 b)) (NoHazardTest 11) (Waits (loadUse l a b))
+
+-- retirement gives 12 and 13 as the tick does
+unfoldable pub retirePart : PipelineCpu → Ticked
+retirePart s =
+    handedBack (verdict (test (broken s) 11 (test (stuck s) 12 (test (brimming s) 13 pass))) (retire s)) s

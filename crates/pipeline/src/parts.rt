@@ -1,0 +1,119 @@
+// The parts of the tick called by themselves.
+ghost use mathlib.Core.Path.{_≡_};
+ghost use Rattle.pipeline.specs.Parts.{forwardedPart, executePart, decodePart, sourcesPart, latencyFrom, mulDivPart, hazardPart, retirePart};
+use crate::DecodedId;
+use crate::Executed;
+use crate::Execution;
+use crate::Forwarded;
+use crate::Hazard;
+use crate::MulDiv;
+use crate::Outcome;
+use crate::PipelineCpu;
+use crate::Sources;
+use crate::Ticked;
+use isa::Decoded;
+use latch::IdEx;
+use latch::IfId;
+use latch::bounds::bad_decoded;
+use latch::execute::effect_from;
+use latch::forwarding::forwarded;
+
+// The two sources of what IF/ID holds.
+pub fn id_sources(f: IfId) -> Sources
+    ensures { λ r. ⌜ r ≡ sourcesPart f ⌝ }
+{
+    if f.out_of_bounds() {
+        return Sources::Refused(11);
+    }
+    let raw = f.raw;
+    let d = raw.decoded();
+    let o = d.operands();
+    Sources::Two(o.src_a, o.src_b)
+}
+
+fn latency_from(n: u8) -> MulDiv
+    ensures { λ r. ⌜ r ≡ latencyFrom n ⌝ }
+{
+    if 0 < n {
+        return MulDiv::Latency(n as u32);
+    }
+    MulDiv::None
+}
+
+// The latency of a multiply or divide.
+pub fn is_mul_div(d: Decoded) -> MulDiv
+    ensures { λ r. ⌜ r ≡ mulDivPart d ⌝ }
+{
+    if bad_decoded(d) {
+        return MulDiv::Refused(11);
+    }
+    let o = d.operands();
+    latency_from(o.latency)
+}
+
+// Whether two sources wait for the load in a latch.
+pub fn load_use_hazard(d: IdEx, a: u8, b: u8) -> Hazard
+    ensures { λ r. ⌜ r ≡ hazardPart d a b ⌝ }
+{
+    if d.out_of_bounds() | ((31 < a) | (31 < b)) {
+        return Hazard::Refused(11);
+    }
+    Hazard::Waits(d.load_use_hazard(a, b))
+}
+
+impl PipelineCpu {
+    // The value of a register as EX sees it.
+    pub fn forwarded(self, r: u8) -> Forwarded
+        ensures { λ v. ⌜ v ≡ forwardedPart self r ⌝ }
+    {
+        if self.is_broken() | (31 < r) {
+            return Forwarded::Refused(11);
+        }
+        let x = self.ex_mem;
+        let m = self.mem_wb;
+        Forwarded::Word(forwarded(x, m, self.features, &self.reg, r))
+    }
+
+    // The next EX/MEM of a latch and the way that its instruction goes.
+    pub fn execute_ex(self, d: IdEx) -> Executed
+        ensures { λ r. ⌜ r ≡ executePart self d ⌝ }
+    {
+        if self.is_broken() | d.out_of_bounds() {
+            return Executed::Refused(11);
+        }
+        let x = self.ex_mem;
+        let m = self.mem_wb;
+        let e = effect_from(self.user, x, m, self.features, &self.reg, d);
+        let redirect = e.redirect;
+        Executed::Done(Execution {
+            ex_mem: d.ex_mem(e),
+            redirect,
+        })
+    }
+
+    // The ID/EX that a latch decodes to.
+    pub fn decode_id(self, f: IfId) -> DecodedId
+        ensures { λ r. ⌜ r ≡ decodePart self f ⌝ }
+    {
+        if self.is_broken() | f.out_of_bounds() {
+            return DecodedId::Refused(11);
+        }
+        DecodedId::Latch(f.decode_id(&self.reg))
+    }
+
+    // The state after the retirement of MEM/WB; a refused one is handed back as it was.
+    pub fn retire(self) -> Ticked
+        ensures { λ r. ⌜ r ≡ retirePart self ⌝ }
+    {
+        let k = self.standing();
+        if 0 < k {
+            return self.refused(k);
+        }
+        let mut reg = self.reg;
+        let s = self.stages().retire(&mut reg);
+        Ticked {
+            state: s.with(reg),
+            outcome: Outcome::Accepted,
+        }
+    }
+}

@@ -1,0 +1,121 @@
+// Start, and the state as stages with lent registers.
+ghost use mathlib.Core.Path.{_≡_};
+ghost use Rattle.pipeline.specs.Stages.{view, started, stagesOf};
+ghost use Rattle.pipeline.specs.Start.{fresh};
+use crate::PipelineCpu;
+use crate::Place;
+use crate::Stages;
+use isa::Mode;
+use latch::ExMem;
+use latch::IdEx;
+use latch::IfId;
+use latch::MemWb;
+
+impl Stages {
+    // The stages of a start: empty latches, no wait, running, counters 0.
+    fn start(pc: u32, mode: Mode, user: bool, features: u32) -> Stages
+        ensures { λ r. ⌜ r ≡ started pc mode user features ⌝ }
+    {
+        Stages {
+            fetch_at: Place { pc, mode },
+            retire_at: Place { pc, mode },
+            running: true,
+            user,
+            features,
+            if_id: IfId::invalid(),
+            id_ex: IdEx::invalid(),
+            ex_mem: ExMem::invalid(),
+            mem_wb: MemWb::invalid(),
+            ex_cycles_left: 0,
+            ex_armed: false,
+            cycles: 0,
+            running_cycles: 0,
+            instructions_executed: 0,
+            stall_cycles: 0,
+            flush_events: 0,
+        }
+    }
+
+    // The state with these registers.
+    pub(crate) fn with(self, reg: [u32; 32]) -> PipelineCpu
+        ensures { λ r. ⌜ r ≡ view self reg ⌝ }
+    {
+        let f = self.fetch_at;
+        let fetch_mode = f.mode;
+        let r = self.retire_at;
+        let retire_mode = r.mode;
+        let if_id = self.if_id;
+        let id_ex = self.id_ex;
+        let ex_mem = self.ex_mem;
+        let mem_wb = self.mem_wb;
+        PipelineCpu {
+            reg,
+            fetch_pc: f.pc,
+            fetch_mode,
+            retire_pc: r.pc,
+            retire_mode,
+            running: self.running,
+            user: self.user,
+            features: self.features,
+            if_id,
+            id_ex,
+            ex_mem,
+            mem_wb,
+            ex_cycles_left: self.ex_cycles_left,
+            ex_armed: self.ex_armed,
+            cycles: self.cycles,
+            running_cycles: self.running_cycles,
+            instructions_executed: self.instructions_executed,
+            stall_cycles: self.stall_cycles,
+            flush_events: self.flush_events,
+        }
+    }
+}
+
+impl PipelineCpu {
+    // The state that a program starts in; R0 becomes 0.
+    pub fn start(reg: [u32; 32], pc: u32, mode: Mode, user: bool, features: u32) -> PipelineCpu
+        ensures { λ r. ⌜ r ≡ fresh reg pc mode user features ⌝ }
+    {
+        let mut regs = reg;
+        regs[0] = 0;
+        let s = Stages::start(pc, mode, user, features);
+        s.with(regs)
+    }
+
+    // The state but for its registers.
+    pub(crate) fn stages(self) -> Stages
+        ensures { λ r. ⌜ r ≡ stagesOf self ⌝ }
+    {
+        let fetch_mode = self.fetch_mode;
+        let retire_mode = self.retire_mode;
+        let if_id = self.if_id;
+        let id_ex = self.id_ex;
+        let ex_mem = self.ex_mem;
+        let mem_wb = self.mem_wb;
+        Stages {
+            fetch_at: Place {
+                pc: self.fetch_pc,
+                mode: fetch_mode,
+            },
+            retire_at: Place {
+                pc: self.retire_pc,
+                mode: retire_mode,
+            },
+            running: self.running,
+            user: self.user,
+            features: self.features,
+            if_id,
+            id_ex,
+            ex_mem,
+            mem_wb,
+            ex_cycles_left: self.ex_cycles_left,
+            ex_armed: self.ex_armed,
+            cycles: self.cycles,
+            running_cycles: self.running_cycles,
+            instructions_executed: self.instructions_executed,
+            stall_cycles: self.stall_cycles,
+            flush_events: self.flush_events,
+        }
+    }
+}
