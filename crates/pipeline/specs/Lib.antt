@@ -9,10 +9,5 @@ pub mod Stages
 pub mod Start
 pub mod Ask
 pub mod Tick
-pub mod Count
-pub mod Accuracy
-pub mod Premise
-pub mod Table
-pub mod Claims
 pub mod Parts
 pub mod Codes

@@ -23,25 +23,25 @@ use Rattle.latch.specs.Forwarding.{fromExMem, fromMemWb}
 use Rattle.latch.specs.Latches.{cleared, emptyExMem, emptyIdEx, emptyMemWb}
 use Rattle.latch.specs.Memory.{destAfter, loads, memWbOf, requests, stores, valueAfter, writesAfter}
 use Rattle.latch.specs.Retire.{halts, isFaulty, retiredMode, retiredPc, retiredRegs}
-use Rattle.pipeline.proofs.Instructions.{few, go-cases, kind, load-plain, ok-dest, ok-kind, okIn, slow-load}
-use Rattle.pipeline.proofs.Path.{At, asked-at, commit-at, due, dxAt, effOf, latch-at, ld-at, left-at}
-use Rattle.pipeline.proofs.Path.{load-at, load-facts, load-turn, mem-at, mode-at, mode-kept, mode-new, mwAt}
-use Rattle.pipeline.proofs.Path.{next-guessed, next-turned, pc-at, settled, slow-turn, swerve-turn, turnAt}
-use Rattle.pipeline.proofs.Path.{xm-regs-at, xmAt}
-use Rattle.pipeline.proofs.Registers.{fwd-load, fwd-xm, length-cpu, length-put, read-put, zero-cpu, zero-put}
-use Rattle.pipeline.proofs.Registers.{zero-read}
-use Rattle.pipeline.specs.Accuracy.{answers, arch}
+use Rattle.accuracy.proofs.Instructions.{few, go-cases, kind, load-plain, ok-dest, ok-kind, okIn, slow-load}
+use Rattle.accuracy.proofs.Path.{At, asked-at, commit-at, due, dxAt, effOf, latch-at, ld-at, left-at}
+use Rattle.accuracy.proofs.Path.{load-at, load-facts, load-turn, mem-at, mode-at, mode-kept, mode-new, mwAt}
+use Rattle.accuracy.proofs.Path.{next-guessed, next-turned, pc-at, settled, slow-turn, swerve-turn, turnAt}
+use Rattle.accuracy.proofs.Path.{xm-regs-at, xmAt}
+use Rattle.accuracy.proofs.Registers.{fwd-load, fwd-xm, length-cpu, length-put, read-put, zero-cpu, zero-put}
+use Rattle.accuracy.proofs.Registers.{zero-read}
+use Rattle.accuracy.specs.Accuracy.{answers, arch}
 use Rattle.pipeline.specs.Advance.{Taken, advance, advanceBy}
 use Rattle.pipeline.specs.Ask.{asks}
-use Rattle.pipeline.specs.Count.{count, predictAt}
+use Rattle.accuracy.specs.Count.{count, predictAt}
 use Rattle.pipeline.specs.Execute.{effectFor, executed, executedBy, operandB, redirectBy, redirectOf}
 use Rattle.pipeline.specs.Fetch.{fetchPlace, fetched, fetches, nextIdEx, predicted}
 use Rattle.pipeline.specs.Forwarding.{forwarded}
 use Rattle.pipeline.specs.Move.{choose, chooseDone, chooseFree, hazard, isSlow, move, nextExMem, proceedOr}
-use Rattle.pipeline.specs.Names.{Decoded, Dest, Effect, ExMem, IdEx, IfId, MemWb, Mode, Move, Next, NoDest}
-use Rattle.pipeline.specs.Names.{Normal, PipelineCpu, RawInstr, Redirect, Reg, Request, To, beginWait}
-use Rattle.pipeline.specs.Names.{keepWaiting, loadUseStall, proceed, redirect}
+use Rattle.accuracy.specs.Names.{Decoded, Dest, Effect, ExMem, IdEx, IfId, MemWb, Mode, Move, Next, NoDest}
+use Rattle.accuracy.specs.Names.{Normal, PipelineCpu, RawInstr, Redirect, Reg, Request, To, beginWait}
+use Rattle.accuracy.specs.Names.{keepWaiting, loadUseStall, proceed, redirect}
 use Rattle.pipeline.specs.Retire.{retire}
 use Rattle.word.specs.Words.{bit}
 
 unfoldable pub okAt : Program → Arch → Bool

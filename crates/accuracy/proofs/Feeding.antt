@@ -4,13 +4,13 @@ use mathlib.Core.Bool.{Bool, cond, false, true}
 use mathlib.Core.List.{List, [], _++_, _∷_, append-assoc}
 use mathlib.Core.Path.{_∙_, _≡_, ap, refl, sym}
 use Rattle.isa.specs.Machine.{Program, first, isEmpty, rest}
-use Rattle.pipeline.proofs.Took.{answer-is, answer-none, took}
-use Rattle.pipeline.specs.Accuracy.{Run, TakesWhole, answers, fed, one}
+use Rattle.accuracy.proofs.Took.{answer-is, answer-none, took}
+use Rattle.accuracy.specs.Accuracy.{Run, TakesWhole, answers, fed, one}
 use Rattle.pipeline.specs.Advance.{next}
 use Rattle.pipeline.specs.Ask.{wantLoad}
-use Rattle.pipeline.specs.Names.{Given, PipelineCpu}
+use Rattle.accuracy.specs.Names.{Given, PipelineCpu}
 use Rattle.pipeline.specs.Retire.{retire}
 use Rattle.pipeline.specs.Tick.{Result, moved, refused, tick, wordIn}
 
 -- the answer that an accepted tick gives is what the machine makes of the next one left
 pub record Feeds (g : Program) (s : PipelineCpu) (t : Given) (left left′ : List ℕ) : Type 0 where

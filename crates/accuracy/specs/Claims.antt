@@ -2,7 +2,7 @@
 -- word: Words. isa: Short (short decode), Operands, Effect (execute), Waits (waits, used loads, prediction),
 -- Registers, Redirects, Machine (the one-at-a-time machine). latch: Latches, Decode, Forwarding, Execute, Memory,
 -- Retire, Bounds (refusal 11 of each latch). pipeline: Forwarding, Execute, Retire, Move, Fetch, Advance (the
--- tick's moves), Start, Ask (asking; 11, 12, 13), Tick (1, 2, 3, 4), Count (M, D, L, R, the formula), Accuracy
+-- tick's moves), Start, Ask (asking; 11, 12, 13), Tick (1, 2, 3, 4). Here: Count (M, D, L, R, the formula), Accuracy
 -- (demand 3).
 use Prim.Native.Nat.{_≤_, suc, ℕ}
 use lib.ListN.{length}
@@ -15,16 +15,16 @@ use Rattle.isa.specs.Registers.{readReg}
 use Rattle.isa.specs.Short.{decodedOf}
 use Rattle.latch.specs.Memory.{memWbOf}
 use Rattle.latch.specs.Retire.{retiredRegs}
-use Rattle.pipeline.specs.Accuracy.{Demand3, Offers, Retires, Run, TakesWhole, after, answers, arch, archWith}
-use Rattle.pipeline.specs.Accuracy.{begin, one}
+use Rattle.accuracy.specs.Accuracy.{Demand3, Offers, Retires, Run, TakesWhole, after, answers, arch, archWith}
+use Rattle.accuracy.specs.Accuracy.{begin, one}
 use Rattle.pipeline.specs.Advance.{next}
 use Rattle.pipeline.specs.Ask.{brimming, broken, stuck}
 use Rattle.pipeline.specs.Forwarding.{forwarded}
-use Rattle.pipeline.specs.Names.{Given, Mode, PipelineCpu, RawInstr, Refused}
-use Rattle.pipeline.specs.Premise.{Agree, fits, replies, reply, told, untold, wholeProgram}
+use Rattle.accuracy.specs.Names.{Given, Mode, PipelineCpu, RawInstr, Refused}
+use Rattle.accuracy.specs.Premise.{Agree, fits, replies, reply, told, untold, wholeProgram}
 use Rattle.pipeline.specs.Start.{fresh}
-use Rattle.pipeline.specs.Table.{Rows}
+use Rattle.accuracy.specs.Table.{Rows}
 use Rattle.pipeline.specs.Tick.{moved, taken, tick, ticked}
 
 -- Forwarding: for each register its value after MEM/WB's and then EX/MEM's writes, R0 reading as 0, where EX/MEM is
 -- no load or store (that neither holds an exception, MTSR, IRET or HALT is not needed for the registers).

@@ -9,13 +9,13 @@ use mathlib.Core.Path.{_∙_, _≡_, ap, refl, sym}
 use Rattle.isa.proofs.Bools.{both-l, both-r, split}
 use Rattle.isa.specs.Machine.{Program}
 use Rattle.isa.specs.Short.{decodedOf}
-use Rattle.pipeline.proofs.Accuracy.{demand3}
-use Rattle.pipeline.specs.Accuracy.{Offers, Retires, Run, TakesWhole, after, arch, begin, one}
+use Rattle.accuracy.proofs.Accuracy.{demand3}
+use Rattle.accuracy.specs.Accuracy.{Offers, Retires, Run, TakesWhole, after, arch, begin, one}
 use Rattle.pipeline.specs.Ask.{fetchAt}
-use Rattle.pipeline.specs.Names.{DecNormal, Decoded, Given, Instr, Mode, Nop, Normal, Nothing, Offer}
-use Rattle.pipeline.specs.Names.{PipelineCpu, RawInstr, Short}
-use Rattle.pipeline.specs.Premise.{Agree, AllAt, placeIs, sameMode, told, toldBy, wholeProgram}
+use Rattle.accuracy.specs.Names.{DecNormal, Decoded, Given, Instr, Mode, Nop, Normal, Nothing, Offer}
+use Rattle.accuracy.specs.Names.{PipelineCpu, RawInstr, Short}
+use Rattle.accuracy.specs.Premise.{Agree, AllAt, placeIs, sameMode, told, toldBy, wholeProgram}
 use Rattle.pipeline.specs.Tick.{Result, moved, refused, tick}
 
 mode-self : (m : Mode) → sameMode m m ≡ true
 unfolding sameMode

@@ -15,25 +15,25 @@ use Rattle.isa.specs.Short.{decodedOf}
 use Rattle.latch.specs.Latches.{emptyIfId, emptyMemWb}
 use Rattle.latch.specs.Memory.{loads, requests}
 use Rattle.latch.specs.Retire.{halts, isFaulty}
-use Rattle.pipeline.proofs.Feeding.{Fed, Feeds, FeedsBy, fed-whole}
-use Rattle.pipeline.proofs.Instructions.{okIn}
-use Rattle.pipeline.proofs.Inv.{Live, Mw, PlaceIs, Xm, count-mw, f0, isa-mw, next-live, place-mw, regs-mw}
-use Rattle.pipeline.proofs.Inv.{retire-live}
-use Rattle.pipeline.proofs.Path.{due}
-use Rattle.pipeline.proofs.Timing.{bound, due-time, time-path}
-use Rattle.pipeline.proofs.Took.{Took, advance-regs, advance-retire-mode, advance-retire-pc, advance-retired}
-use Rattle.pipeline.proofs.Took.{advance-running, offer-is, offer-ok, retire-off, took}
-use Rattle.pipeline.specs.Accuracy.{Demand3, Meets, Offers, Retires, Run, after, answers, arch, archWith}
-use Rattle.pipeline.specs.Accuracy.{begin, one, oneBy}
+use Rattle.accuracy.proofs.Feeding.{Fed, Feeds, FeedsBy, fed-whole}
+use Rattle.accuracy.proofs.Instructions.{okIn}
+use Rattle.accuracy.proofs.Inv.{Live, Mw, PlaceIs, Xm, count-mw, f0, isa-mw, next-live, place-mw, regs-mw}
+use Rattle.accuracy.proofs.Inv.{retire-live}
+use Rattle.accuracy.proofs.Path.{due}
+use Rattle.accuracy.proofs.Timing.{bound, due-time, time-path}
+use Rattle.accuracy.proofs.Took.{Took, advance-regs, advance-retire-mode, advance-retire-pc, advance-retired}
+use Rattle.accuracy.proofs.Took.{advance-running, offer-is, offer-ok, retire-off, took}
+use Rattle.accuracy.specs.Accuracy.{Demand3, Meets, Offers, Retires, Run, after, answers, arch, archWith}
+use Rattle.accuracy.specs.Accuracy.{begin, one, oneBy}
 use Rattle.pipeline.specs.Advance.{Taken, advance, awake, idle, next, resting}
 use Rattle.pipeline.specs.Ask.{asks, fetchAt, stuck, wantFetch, wantLoad}
-use Rattle.pipeline.specs.Count.{count}
+use Rattle.accuracy.specs.Count.{count}
 use Rattle.pipeline.specs.Fetch.{fetchPlace, fetches}
 use Rattle.pipeline.specs.Move.{move}
-use Rattle.pipeline.specs.Names.{Given, MemWb, Mode, Move, PipelineCpu, RawInstr, Request}
+use Rattle.accuracy.specs.Names.{Given, MemWb, Mode, Move, PipelineCpu, RawInstr, Request}
 use Rattle.pipeline.specs.Retire.{retire}
 use Rattle.pipeline.specs.Start.{fresh}
 use Rattle.pipeline.specs.Tick.{Result, moved, rawOf, refused, taken, tick, wordIn}
 use Rattle.word.specs.Words.{bit}
 
 module _ (prog : Program) (w₀ : Arch) (len : length (w₀ .reg) ≡ 32) (nought : getD (w₀ .reg) 0 0 ≡ 0) where

@@ -6,18 +6,18 @@ use Rattle.isa.proofs.Bools.{un-not}
 use Rattle.isa.specs.Operands.{okOperands, operandsN}
 use Rattle.isa.specs.Short.{decodedOf}
 use Rattle.latch.specs.Retire.{halts}
-use Rattle.pipeline.proofs.Instructions.{okIn}
-use Rattle.pipeline.proofs.Passed.{Passed, passed}
-use Rattle.pipeline.specs.Accuracy.{said}
+use Rattle.accuracy.proofs.Instructions.{okIn}
+use Rattle.accuracy.proofs.Passed.{Passed, passed}
+use Rattle.accuracy.specs.Accuracy.{said}
 use Rattle.pipeline.specs.Advance.{Taken, advance, advanceBy, next}
 use Rattle.pipeline.specs.Ask.{fetchAt, stuck, wantFetch, wantLoad}
 use Rattle.pipeline.specs.Move.{nextExMem}
-use Rattle.pipeline.specs.Names.{Answer, Given, Instr, Mode, Move, NoAnswer, Normal, Nothing, Offer}
-use Rattle.pipeline.specs.Names.{PipelineCpu, RawNormal, RawShort, Short, Word, beginWait, keepWaiting}
-use Rattle.pipeline.specs.Names.{loadUseStall, proceed, redirect}
+use Rattle.accuracy.specs.Names.{Answer, Given, Instr, Mode, Move, NoAnswer, Normal, Nothing, Offer}
+use Rattle.accuracy.specs.Names.{PipelineCpu, RawNormal, RawShort, Short, Word, beginWait, keepWaiting}
+use Rattle.accuracy.specs.Names.{loadUseStall, proceed, redirect}
 use Rattle.pipeline.specs.Retire.{retire}
 use Rattle.pipeline.specs.Tick.{badOffer, fitsOffer, givenTests, isAnswer, moved, rawOf, same, taken, tests}
 use Rattle.pipeline.specs.Tick.{tick, wordIn}
 
 -- what an accepted tick tells
 pub record Took (s : PipelineCpu) (t : Given) (s′ : PipelineCpu) : Type 0 where

@@ -4,7 +4,7 @@ use mathlib.Core.Bool.{Bool, cond, not}
 use Rattle.isa.specs.Machine.{Arch, Program, effectAt, instructionAt, machine}
 use Rattle.isa.specs.Redirects.{isTo}
 use Rattle.isa.specs.Waits.{isDiv, isMul, isUsedLoad, predict}
-use Rattle.pipeline.specs.Names.{Redirect}
+use Rattle.accuracy.specs.Names.{Redirect}
 use Rattle.word.specs.Words.{bit}
 
 -- the prediction at an instruction

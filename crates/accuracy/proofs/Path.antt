@@ -20,12 +20,12 @@ use Rattle.latch.specs.Execute.{exMemOf, mispredict}
 use Rattle.latch.specs.Forwarding.{fromMemWb}
 use Rattle.latch.specs.Memory.{destAfter, loads, memWbOf, requests, stores, valueAfter, writesAfter}
 use Rattle.latch.specs.Retire.{retireCpuid, retireReg, retiredMode, retiredPc, retiredRegs}
-use Rattle.pipeline.proofs.Instructions.{Plain, Stores, force-none, kind, load-plain, mode-stays, settle}
-use Rattle.pipeline.proofs.Instructions.{slow-straight, store-plain, swap-kept, swap-new, turned}
-use Rattle.pipeline.proofs.Registers.{cpuZ-same, fwd-mw, putZ-same, xmRegs, zero-cpu}
-use Rattle.pipeline.specs.Count.{isRedirect, predictAt}
-use Rattle.pipeline.specs.Names.{Dest, Effect, ExMem, IdEx, IfId, MemWb, Mode, Next, NoDest, Redirect, Reg}
-use Rattle.pipeline.specs.Names.{To}
+use Rattle.accuracy.proofs.Instructions.{Plain, Stores, force-none, kind, load-plain, mode-stays, settle}
+use Rattle.accuracy.proofs.Instructions.{slow-straight, store-plain, swap-kept, swap-new, turned}
+use Rattle.accuracy.proofs.Registers.{cpuZ-same, fwd-mw, putZ-same, xmRegs, zero-cpu}
+use Rattle.accuracy.specs.Count.{isRedirect, predictAt}
+use Rattle.accuracy.specs.Names.{Dest, Effect, ExMem, IdEx, IfId, MemWb, Mode, Next, NoDest, Redirect, Reg}
+use Rattle.accuracy.specs.Names.{To}
 use Rattle.word.specs.Words.{bit}
 
 unfoldable pub turnAt : Program → Arch → Redirect

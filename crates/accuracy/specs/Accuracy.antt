@@ -6,11 +6,11 @@ use mathlib.Core.Path.{_≡_}
 use Rattle.isa.specs.Machine.{Arch, Program, machine}
 use Rattle.isa.specs.Short.{decodedOf}
 use Rattle.latch.specs.Memory.{requests}
 use Rattle.pipeline.specs.Ask.{asks, fetchAt}
-use Rattle.pipeline.specs.Count.{path, retireTick}
-use Rattle.pipeline.specs.Names.{Answer, Given, Instr, Mode, NoAnswer, PipelineCpu, RawInstr, Request, Word}
+use Rattle.accuracy.specs.Count.{path, retireTick}
+use Rattle.accuracy.specs.Names.{Answer, Given, Instr, Mode, NoAnswer, PipelineCpu, RawInstr, Request, Word}
 use Rattle.pipeline.specs.Start.{fresh}
 use Rattle.pipeline.specs.Tick.{Result, moved, refused, tick}
 
 -- a list of ticks so far: the state handed back, the accepted ticks, the requests asked for in them
 pub record Run : Type 0 where

@@ -10,9 +10,9 @@ use Rattle.isa.specs.Registers.{readReg}
 use Rattle.latch.specs.Latches.{emptyMemWb}
 use Rattle.latch.specs.Memory.{destAfter, loads, memWbOf, stores, valueAfter, writesAfter}
 use Rattle.latch.specs.Retire.{retiredRegs}
-use Rattle.pipeline.proofs.Registers.{fwd-law, xmRegs}
+use Rattle.accuracy.proofs.Registers.{fwd-law, xmRegs}
 use Rattle.pipeline.specs.Forwarding.{forwarded}
-use Rattle.pipeline.specs.Names.{ExMem, PipelineCpu}
+use Rattle.accuracy.specs.Names.{ExMem, PipelineCpu}
 
 -- forwarding, as document 01 says it: the register's value after MEM/WB's and then EX/MEM's writes, in retirement's
 -- own words

@@ -16,12 +16,12 @@ use Rattle.isa.specs.Registers.{isNamed}
 use Rattle.isa.specs.Waits.{isDiv, isMul, isNegative, predict, predictBy, waits, waitsBy}
 use Rattle.latch.specs.Bounds.{badWidth}
 use Rattle.latch.specs.Execute.{mispredict}
-use Rattle.pipeline.specs.Names.{Add, Addi, And, Beq, Bne, Cpuid, DecNormal, DecShort, Decoded, Div, Divu}
-use Rattle.pipeline.specs.Names.{Effect, Halt, Instruction, Iret, Jal, Jalr, Jalrs, Jals, Jmp, Jmps, Jr, Jrs}
-use Rattle.pipeline.specs.Names.{Keep, Ld, Ldb, Ldh, Ldih, Ldil, Mfsr, Mod, Mode, Mtsr, Mul, Mulh, NewMode}
-use Rattle.pipeline.specs.Names.{Next, Nop, Normal, Operands, Or, Redirect, Short, ShortInstruction, Sla, Sll}
-use Rattle.pipeline.specs.Names.{Slt, Sltu, Sra, Srl, St, Stb, Sth, Sub, Syscall, To, ToMode, Unknown, Xor}
-use Rattle.pipeline.specs.Names.{sAdd, sAddi, sBnz, sBz, sJal, sJr, sLd, sLdi, sMov, sRet, sSt, sUnknown}
+use Rattle.accuracy.specs.Names.{Add, Addi, And, Beq, Bne, Cpuid, DecNormal, DecShort, Decoded, Div, Divu}
+use Rattle.accuracy.specs.Names.{Effect, Halt, Instruction, Iret, Jal, Jalr, Jalrs, Jals, Jmp, Jmps, Jr, Jrs}
+use Rattle.accuracy.specs.Names.{Keep, Ld, Ldb, Ldh, Ldih, Ldil, Mfsr, Mod, Mode, Mtsr, Mul, Mulh, NewMode}
+use Rattle.accuracy.specs.Names.{Next, Nop, Normal, Operands, Or, Redirect, Short, ShortInstruction, Sla, Sll}
+use Rattle.accuracy.specs.Names.{Slt, Sltu, Sra, Srl, St, Stb, Sth, Sub, Syscall, To, ToMode, Unknown, Xor}
+use Rattle.accuracy.specs.Names.{sAdd, sAddi, sBnz, sBz, sJal, sJr, sLd, sLdi, sMov, sRet, sSt, sUnknown}
 use Rattle.word.specs.Words.{bit, offset32, wordOf}
 
 pub go-cases : {C : Type 0} (g : Redirect) → (g ≡ Next → C) → ((p : ℕ) (m : Mode) → g ≡ To p m → C) → C

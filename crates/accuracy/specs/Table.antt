@@ -8,15 +8,15 @@ use mathlib.Core.List.{List, [], _∷_}
 use mathlib.Core.Path.{_≡_}
 use Rattle.isa.specs.Machine.{Program, first, rest}
 use Rattle.isa.specs.Short.{decodedOf}
-use Rattle.pipeline.specs.Accuracy.{Run, after, answers, archWith, begin}
+use Rattle.accuracy.specs.Accuracy.{Run, after, answers, archWith, begin}
 use Rattle.pipeline.specs.Ask.{wantLoad}
-use Rattle.pipeline.specs.Count.{path, retireTick}
-use Rattle.pipeline.specs.Names.{Add, Addi, Beq, Bne, Div, Given, Halt, Instruction, Jmp, Jmps, Ld, Mode, Mul}
-use Rattle.pipeline.specs.Names.{NoAnswer, Normal, Nothing, PipelineCpu, RawInstr, RawNormal, RawShort, Short}
-use Rattle.pipeline.specs.Names.{Unknown}
-use Rattle.pipeline.specs.Premise.{replies, reply}
+use Rattle.accuracy.specs.Count.{path, retireTick}
+use Rattle.accuracy.specs.Names.{Add, Addi, Beq, Bne, Div, Given, Halt, Instruction, Jmp, Jmps, Ld, Mode, Mul}
+use Rattle.accuracy.specs.Names.{NoAnswer, Normal, Nothing, PipelineCpu, RawInstr, RawNormal, RawShort, Short}
+use Rattle.accuracy.specs.Names.{Unknown}
+use Rattle.accuracy.specs.Premise.{replies, reply}
 use Rattle.pipeline.specs.Start.{fresh}
 use Rattle.pipeline.specs.Tick.{ticked}
 
 -- a program line of four bytes: one Normal instruction, or two short halfwords
 pub data Line : Type 0 where

@@ -1,8 +1,8 @@
 -- A tick that moved has passed every test. Assumes nothing.
 use mathlib.Core.Bool.{Bool, false, false≢true, true}
 use mathlib.Core.Path.{_≡_, ap, refl}
-use Rattle.pipeline.specs.Names.{PipelineCpu}
+use Rattle.accuracy.specs.Names.{PipelineCpu}
 use Rattle.pipeline.specs.Tick.{Result, Tests, moved, pass, refused, test, verdict}
 
 -- a tick that moved has passed every test
 unfoldable isMoved : Result → Bool

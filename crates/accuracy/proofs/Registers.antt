@@ -13,8 +13,8 @@ use Rattle.isa.specs.Operands.{okDest}
 use Rattle.isa.specs.Registers.{isDest, isReg, putReg, readReg, writeCpuid, writeReg}
 use Rattle.latch.specs.Forwarding.{fromExMem, fromMemWb}
 use Rattle.latch.specs.Retire.{retireCpuid, retireReg, retiredRegs}
 use Rattle.pipeline.specs.Forwarding.{forwarded}
-use Rattle.pipeline.specs.Names.{Dest, ExMem, MemWb, NoDest, PipelineCpu, Reg}
+use Rattle.accuracy.specs.Names.{Dest, ExMem, MemWb, NoDest, PipelineCpu, Reg}
 
 pos-of : (r : ℕ) → (r ≡ 0 → ⊥) → 0 < r
 pos-of zero h = absurd (h refl)

@@ -10,18 +10,18 @@ use Rattle.isa.proofs.Bools.{split}
 use Rattle.isa.specs.Machine.{Program}
 use Rattle.isa.specs.Operands.{bare, okDest, okOperands, operandsN, plain}
 use Rattle.isa.specs.Short.{decodedOf}
-use Rattle.pipeline.proofs.Accuracy.{demand3}
-use Rattle.pipeline.proofs.Took.{advance-retired, took}
-use Rattle.pipeline.specs.Accuracy.{Meets, Offers, Retires, Run, TakesWhole, after, arch, begin, one, oneBy}
+use Rattle.accuracy.proofs.Accuracy.{demand3}
+use Rattle.accuracy.proofs.Took.{advance-retired, took}
+use Rattle.accuracy.specs.Accuracy.{Meets, Offers, Retires, Run, TakesWhole, after, arch, begin, one, oneBy}
 use Rattle.pipeline.specs.Advance.{Taken, advance, advanceBy, awake, idle, next, resting}
 use Rattle.pipeline.specs.Ask.{brimming, broken, fetchAt, stuck, wantFetch, wantLoad}
 use Rattle.pipeline.specs.Move.{move, nextExMem}
-use Rattle.pipeline.specs.Names.{Given, Instr, Mode, Move, NoAnswer, Normal, Nothing, PipelineCpu, RawInstr}
-use Rattle.pipeline.specs.Names.{Short, Word, beginWait, keepWaiting, loadUseStall, proceed, redirect}
-use Rattle.pipeline.specs.Premise.{fits, replies, reply}
+use Rattle.accuracy.specs.Names.{Given, Instr, Mode, Move, NoAnswer, Normal, Nothing, PipelineCpu, RawInstr}
+use Rattle.accuracy.specs.Names.{Short, Word, beginWait, keepWaiting, loadUseStall, proceed, redirect}
+use Rattle.accuracy.specs.Premise.{fits, replies, reply}
 use Rattle.pipeline.specs.Retire.{retire}
 use Rattle.pipeline.specs.Tick.{Result, badOffer, fitsOffer, givenTests, isAnswer, mfsrOffer, moved, refused}
 use Rattle.pipeline.specs.Tick.{same, taken, tests, tick, verdict}
 use Rattle.word.specs.Words.{bit}
 
 -- a tick adds at most one retirement

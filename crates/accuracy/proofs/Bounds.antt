@@ -18,19 +18,19 @@ use Rattle.latch.specs.Execute.{effectIn, exMemOf}
 use Rattle.latch.specs.Latches.{cleared, emptyExMem, emptyIdEx, emptyIfId, emptyMemWb}
 use Rattle.latch.specs.Memory.{destAfter, loads, memWbOf, stores, valueAfter, writesAfter}
 use Rattle.latch.specs.Retire.{halts}
-use Rattle.pipeline.proofs.Instructions.{short-ok, sources-in, waits-in, width-in}
-use Rattle.pipeline.proofs.Passed.{Passed, passed}
+use Rattle.accuracy.proofs.Instructions.{short-ok, sources-in, waits-in, width-in}
+use Rattle.accuracy.proofs.Passed.{Passed, passed}
 use Rattle.pipeline.specs.Advance.{Taken, advance, advanceBy, awake, idle, next, resting}
 use Rattle.pipeline.specs.Ask.{broken}
 use Rattle.pipeline.specs.Execute.{effectFor, executed, executedBy}
 use Rattle.pipeline.specs.Fetch.{fetchPlace, fetched, nextIdEx}
 use Rattle.pipeline.specs.Move.{move, nextExMem}
-use Rattle.pipeline.specs.Names.{Dest, Effect, ExMem, Given, IdEx, IfId, Instr, Mode, Move, Nothing, Offer}
-use Rattle.pipeline.specs.Names.{PipelineCpu, RawInstr, RawNormal, RawShort, beginWait, keepWaiting}
-use Rattle.pipeline.specs.Names.{loadUseStall, proceed, redirect}
+use Rattle.accuracy.specs.Names.{Dest, Effect, ExMem, Given, IdEx, IfId, Instr, Mode, Move, Nothing, Offer}
+use Rattle.accuracy.specs.Names.{PipelineCpu, RawInstr, RawNormal, RawShort, beginWait, keepWaiting}
+use Rattle.accuracy.specs.Names.{loadUseStall, proceed, redirect}
 use Rattle.pipeline.specs.Retire.{retire}
 use Rattle.pipeline.specs.Start.{fresh}
 use Rattle.pipeline.specs.Tick.{badOffer, givenTests, mfsrOffer, moved, rawOf, taken, tests, tick}
 
 -- the bounds, one by one
 pub record Within (s : PipelineCpu) : Type 0 where

@@ -17,24 +17,24 @@ use Rattle.latch.specs.Forwarding.{fromExMem, fromMemWb}
 use Rattle.latch.specs.Latches.{cleared, emptyExMem, emptyIdEx, emptyIfId, emptyMemWb}
 use Rattle.latch.specs.Memory.{destAfter, loads, memWbOf, requests, stores, valueAfter, writesAfter}
 use Rattle.latch.specs.Retire.{halts, isFaulty, retireCpuid, retireReg, retiredMode, retiredPc, retiredRegs}
-use Rattle.pipeline.proofs.Path.{due}
-use Rattle.pipeline.specs.Accuracy.{after, archWith, begin, one, oneBy}
+use Rattle.accuracy.proofs.Path.{due}
+use Rattle.accuracy.specs.Accuracy.{after, archWith, begin, one, oneBy}
 use Rattle.pipeline.specs.Advance.{advance, advanceBy, awake, idle, next, resting}
 use Rattle.pipeline.specs.Ask.{asks, brimming, broken, fetchAt, isFull, stuck, wantFetch, wantLoad}
-use Rattle.pipeline.specs.Count.{count, divides, isRedirect, multiplies, path, predictAt, redirects}
-use Rattle.pipeline.specs.Count.{retireTick, usedLoads}
+use Rattle.accuracy.specs.Count.{count, divides, isRedirect, multiplies, path, predictAt, redirects}
+use Rattle.accuracy.specs.Count.{retireTick, usedLoads}
 use Rattle.pipeline.specs.Execute.{effectFor, executed, executedBy, operandB, redirectBy, redirectOf}
 use Rattle.pipeline.specs.Fetch.{fetchPlace, fetched, fetches, nextIdEx, predicted}
 use Rattle.pipeline.specs.Forwarding.{forwarded}
 use Rattle.pipeline.specs.Move.{choose, chooseDone, chooseFree, hazard, isSlow, move, nextExMem, proceedOr}
-use Rattle.pipeline.specs.Premise.{replies, reply}
+use Rattle.accuracy.specs.Premise.{replies, reply}
 use Rattle.pipeline.specs.Retire.{retire}
 use Rattle.pipeline.specs.Start.{fresh}
-use Rattle.pipeline.specs.Table.{Rows, behindRow, branchRow, divideRow, dueIn, figures, figuresOf, haltRow}
-use Rattle.pipeline.specs.Table.{loadRow, loopRow, mixedBegin, mixedRow, mixedTicks, multiplyRow, offerAt}
-use Rattle.pipeline.specs.Table.{offerIn, play, programOf, row, shortRow, zeros}
+use Rattle.accuracy.specs.Table.{Rows, behindRow, branchRow, divideRow, dueIn, figures, figuresOf, haltRow}
+use Rattle.accuracy.specs.Table.{loadRow, loopRow, mixedBegin, mixedRow, mixedTicks, multiplyRow, offerAt}
+use Rattle.accuracy.specs.Table.{offerIn, play, programOf, row, shortRow, zeros}
 use Rattle.pipeline.specs.Tick.{badOffer, fitsOffer, givenTests, handedBack, isAnswer, mfsrOffer, rawOf, same}
 use Rattle.pipeline.specs.Tick.{taken, tests, tick, ticked, verdict, wordIn}
 use Rattle.word.specs.Words.{add32, and32, bit, div32, divu32, ldih32, ldil32, mod32, mul32, mulh32, offset32, or32}
 use Rattle.word.specs.Words.{sll32, slt32, sltu32, sra32, srl32, sub32, xor32}
 

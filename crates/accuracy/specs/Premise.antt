@@ -7,11 +7,11 @@ use mathlib.Core.List.{List, [], _∷_}
 use mathlib.Core.Path.{_≡_}
 use Rattle.isa.specs.Machine.{Program}
 use Rattle.isa.specs.Short.{decodedOf}
-use Rattle.pipeline.specs.Accuracy.{Run, begin, one}
+use Rattle.accuracy.specs.Accuracy.{Run, begin, one}
 use Rattle.pipeline.specs.Ask.{fetchAt, wantFetch, wantLoad}
-use Rattle.pipeline.specs.Names.{DecNormal, Decoded, Given, Instr, Mode, NoAnswer, Nop, Normal, Nothing}
-use Rattle.pipeline.specs.Names.{Offer, PipelineCpu, RawInstr, RawNormal, RawShort, Short, Word}
+use Rattle.accuracy.specs.Names.{DecNormal, Decoded, Given, Instr, Mode, NoAnswer, Nop, Normal, Nothing}
+use Rattle.accuracy.specs.Names.{Offer, PipelineCpu, RawInstr, RawNormal, RawShort, Short, Word}
 use Rattle.pipeline.specs.Tick.{Result, moved, refused, tick}
 
 -- every later accepted fetch from address p in mode m decodes to d
 unfoldable pub AllAt : ℕ → Mode → Decoded → Run → List Given → Type 0

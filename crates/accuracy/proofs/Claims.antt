@@ -1,18 +1,18 @@
 -- Everything claimed of the pipeline, proved. Assumes nothing.
 use Prim.Native.Nat.{ℕ}
 use mathlib.Core.Path.{_≡_, refl}
-use Rattle.pipeline.proofs.Accuracy.{demand3}
-use Rattle.pipeline.proofs.Agree.{agreed}
-use Rattle.pipeline.proofs.Bounds.{fresh-in, tick-in}
-use Rattle.pipeline.proofs.Forwarding.{fwd-writes}
-use Rattle.pipeline.proofs.Sense.{every, goes-on, numbered, offers-met, only}
-use Rattle.pipeline.proofs.Table.{rows}
-use Rattle.pipeline.specs.Accuracy.{arch}
-use Rattle.pipeline.specs.Claims.{Claims, HandsBack}
-use Rattle.pipeline.specs.Names.{PipelineCpu, Refused}
-use Rattle.pipeline.specs.Premise.{told}
+use Rattle.accuracy.proofs.Accuracy.{demand3}
+use Rattle.accuracy.proofs.Agree.{agreed}
+use Rattle.accuracy.proofs.Bounds.{fresh-in, tick-in}
+use Rattle.accuracy.proofs.Forwarding.{fwd-writes}
+use Rattle.accuracy.proofs.Sense.{every, goes-on, numbered, offers-met, only}
+use Rattle.accuracy.proofs.Table.{rows}
+use Rattle.accuracy.specs.Accuracy.{arch}
+use Rattle.accuracy.specs.Claims.{Claims, HandsBack}
+use Rattle.accuracy.specs.Names.{PipelineCpu, Refused}
+use Rattle.accuracy.specs.Premise.{told}
 use Rattle.pipeline.specs.Start.{fresh}
 use Rattle.pipeline.specs.Tick.{Result, handedBack, moved, refused, tick, ticked}
 
 by-result : (s : PipelineCpu) (n : ℕ) (o : Result) → (handedBack o s) .outcome ≡ Refused n → (handedBack o s) .state
     ≡ s

@@ -1,0 +1,15 @@
+pub mod Instructions
+pub mod Registers
+pub mod Passed
+pub mod Path
+pub mod Timing
+pub mod Inv
+pub mod Took
+pub mod Feeding
+pub mod Accuracy
+pub mod Bounds
+pub mod Sense
+pub mod Agree
+pub mod Forwarding
+pub mod Table
+pub mod Claims
