@@ -1,4 +1,31 @@
 // The instructions of the SRC32, what each names and what it does, said once for every machine.
+//
+// Wrong programs that the promises rule out, for each function two. A name in brackets is the must-fail edit that
+// tries one, in the code or in its definition:
+// - Dest::is: true for R0 where no destination is named; true for every register where one is.
+// - Dest::is_named: false for R0; false for a number above 31.
+// - Redirect::is_to: false for the target 0; true where the instruction goes on.
+// - Redirect::target_or: `pc` although there is a target; 0 where the instruction goes on.
+// - Redirect::mode_or: `mode` although there is a target; Normal where the instruction goes on.
+// - NewMode::or: Short for every change; Normal where the mode is kept.
+// - Exception::is_some: false for SYSCALL's; true for none.
+// - Mtsr::is_some: false for special register 0; false for the word 0.
+// - short_reg_to_gpr: R15 for 15 (register_15_is_r15); R31 for 14.
+// - Instruction::fields: base and value of a store exchanged; an offset that is not sign-extended.
+// - ShortInstruction::fields: address and value of ST exchanged (short_st_operands_swapped); LDI's byte sign-extended.
+// - Decoded::fields: ADD's command for the short ADD; the registers of a short instruction as they stand in it.
+// - sel: the two words exchanged; the first word always.
+// - read_reg: the word that stands in reg[0] for R0; 0 for R31.
+// - Operands::predict: every conditional branch taken; the offset added to the branch's own address.
+// - Operands::waits: the latency itself; 2 for a divide too.
+// - ShortInstruction::decode_short: LDI at nibble 10 (nibble_10_decoded); JAL's offset unsigned (jal_offset_unsigned).
+// - RawInstr::decoded: halfword F001 as Unknown; NOP for every Normal instruction.
+// - Decoded::operands: LDIL with no source (ldil_source_forgotten); a latency of 4 for MUL (mul_latency_4).
+// - Dest::in_bounds: 32 in bounds; out of bounds where no destination is named.
+// - Operands::in_bounds: the destination not tested; a source tested only where `n_srcs` counts it.
+// - Decoded::effect: RET to the address in R31 (ret_to_r31); HALT that halts in user mode.
+// - Mode::size: 4 for Short; 2 for Normal.
+// - Mode::fall: 4 added in Short mode; a sum that stops at FFFFFFFF.
 mod choices;
 mod doing;
 mod encoding;

@@ -1,4 +1,19 @@
 // The pipeline: its state, what a tick is given, what asking names, and how a tick ends.
+//
+// Wrong programs that the promises rule out, for each function two. A name in brackets is the must-fail edit that
+// tries one, in the code or in its definition:
+// - PipelineCpu::start: R0 as it was handed in; a retire place of 0.
+// - PipelineCpu::ask: no fetch in a redirecting tick (redirecting_tick_fetches_nothing);
+//   12 for a machine that does not run (refusal_12_when_not_running).
+// - PipelineCpu::tick: EX/MEM kept at a HALT (halt_leaves_ex_mem); a wait one tick longer (wait_one_tick_more).
+//   Also tried: flush_keeps_if_id, predicted_although_redirecting, refusal_3_before_1, running_ticks_when_idle.
+// - id_sources: the base of a store left out; 11 for an unknown halfword.
+// - is_mul_div: the wait, 2 or 15, for the latency; a latency of 0 for any other instruction.
+// - load_use_hazard: a source of 32 let through; a load to R0 waited for.
+// - PipelineCpu::forwarded: 0 for register 32; 12 where MEM/WB holds an exception.
+// - PipelineCpu::execute_ex: an empty EX/MEM for an invalid latch; no redirect where the branch was rightly predicted.
+// - PipelineCpu::decode_id: an invalid latch made of an invalid one; a branch with negative offset predicted taken.
+// - PipelineCpu::retire: MEM/WB emptied; 12 for a machine that does not run (refusal_12_when_not_running).
 mod advance;
 mod ask;
 mod execute;
