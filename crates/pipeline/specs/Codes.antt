@@ -1,4 +1,5 @@
 -- The numbers that the code computes for refusals: 0 where none applies.
+-- These are inner definitions, as those of Stages are: no public promise and no claim rests on them.
 use Prim.Native.Nat.{_<_, ℕ}
 use lib.Dec.{ltb}
 use mathlib.Core.Bool.{Bool, _&&_, cond, false, not, true}

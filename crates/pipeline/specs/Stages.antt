@@ -1,4 +1,6 @@
 -- The state that stages and lent registers are, and its parts.
+-- These are inner definitions, cited by functions that cannot be called from outside: no public promise and no claim
+-- rests on them. Public promises cite Tick.ticked, Ask.ask, Start.fresh and those of Parts, which use none of these.
 use Prim.Native.Nat.{_+_, _<_, ℕ}
 use lib.Dec.{ltb}
 use mathlib.Core.Bool.{Bool, _&&_, cond, false, not, true}
