@@ -27,7 +27,6 @@ use Rattle.accuracy.specs.Accuracy.{Demand3, Meets, Offers, Retires, Run
 use Rattle.accuracy.specs.Accuracy.{begin, one, oneBy}
 use Rattle.pipeline.specs.Advance.{Taken, advance, awake, idle, next, resting}
 use Rattle.pipeline.specs.Ask.{asks, fetchAt, stuck, wantFetch, wantLoad}
-use Rattle.accuracy.specs.Count.{count}
 use Rattle.pipeline.specs.Fetch.{fetchPlace, fetches}
 use Rattle.pipeline.specs.Move.{move}
 use Rattle.accuracy.specs.Names.{Given, MemWb, Mode, Move, PipelineCpu, RawInstr, Request}

@@ -5,13 +5,11 @@ use Rattle.accuracy.proofs.Accuracy.{demand3}
 use Rattle.accuracy.proofs.Agree.{agreed}
 use Rattle.accuracy.proofs.Bounds.{fresh-in, tick-in}
 use Rattle.accuracy.proofs.Forwarding.{fwd-writes}
-use Rattle.accuracy.proofs.Sense.{every, goes-on, numbered, offers-met, only}
+use Rattle.accuracy.proofs.Sense.{every, goes-on, numbered, offers-met}
 use Rattle.accuracy.proofs.Table.{rows}
 use Rattle.accuracy.specs.Accuracy.{arch}
 use Rattle.accuracy.specs.Claims.{Claims, HandsBack}
 use Rattle.accuracy.specs.Names.{PipelineCpu, Refused}
-use Rattle.accuracy.specs.Premise.{told}
-use Rattle.pipeline.specs.Start.{fresh}
 use Rattle.pipeline.specs.Tick.{Result, handedBack, moved, refused, tick, ticked}
 
 by-result : (s : PipelineCpu) (n : ℕ) (o : Result) → (handedBack o s) .outcome ≡ Refused n → (handedBack o s) .state

@@ -30,7 +30,7 @@ use Rattle.accuracy.proofs.Path.{next-guessed, next-turned, pc-at, sett
 use Rattle.accuracy.proofs.Path.{xm-regs-at, xmAt}
 use Rattle.accuracy.proofs.Registers.{fwd-load, fwd-xm, length-cpu, length-put, read-put, zero-cpu, zero-put}
 use Rattle.accuracy.proofs.Registers.{zero-read}
-use Rattle.accuracy.specs.Accuracy.{answers, arch}
+use Rattle.accuracy.specs.Accuracy.{answers}
 use Rattle.pipeline.specs.Advance.{Taken, advance, advanceBy}
 use Rattle.pipeline.specs.Ask.{asks}
 use Rattle.accuracy.specs.Count.{count, predictAt}

@@ -17,7 +17,6 @@ use Rattle.latch.specs.Forwarding.{fromExMem, fromMemWb}
 use Rattle.latch.specs.Latches.{cleared, emptyExMem, emptyIdEx, emptyIfId, emptyMemWb}
 use Rattle.latch.specs.Memory.{destAfter, loads, memWbOf, requests, stores, valueAfter, writesAfter}
 use Rattle.latch.specs.Retire.{halts, isFaulty, retireCpuid, retireReg, retiredMode, retiredPc, retiredRegs}
-use Rattle.accuracy.proofs.Path.{due}
 use Rattle.accuracy.specs.Accuracy.{after, archWith, begin, one, oneBy}
 use Rattle.pipeline.specs.Advance.{advance, advanceBy, awake, idle, next, resting}
 use Rattle.pipeline.specs.Ask.{asks, brimming, broken, fetchAt, isFull, stuck, wantFetch, wantLoad}

@@ -1,7 +1,6 @@
 -- Lists of ticks that meet demand 3's premise: told by the list itself, or answered from a fixed program.
 use Prim.Native.Nat.{ℕ}
 use lib.Dec.{eqb}
-use lib.ListN.{take}
 use mathlib.Core.Bool.{Bool, _&&_, cond, false, true}
 use mathlib.Core.List.{List, [], _∷_}
 use mathlib.Core.Path.{_≡_}

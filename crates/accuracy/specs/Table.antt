@@ -2,7 +2,7 @@
 use Prim.Native.Nat.{_-_, suc, zero, ℕ}
 use lib.Dec.{eqb, ltb}
 use lib.IntN.{negsuc, pos}
-use lib.ListN.{getD, replicate, take}
+use lib.ListN.{getD, replicate}
 use mathlib.Core.Bool.{cond, false}
 use mathlib.Core.List.{List, [], _∷_}
 use mathlib.Core.Path.{_≡_}

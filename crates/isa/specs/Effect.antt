@@ -9,7 +9,6 @@ use Rattle.isa.specs.Names.{Mulh, NewMode, Next, NoException, NoMtsr, No
 use Rattle.isa.specs.Names.{Redirect, Short, ShortInstruction, Sla, Sll, Slt, Sltu, Sra, Srl, St, Stb, Sth}
 use Rattle.isa.specs.Names.{Sub, Syscall, SyscallException, To, ToMode, Unknown, Write, Xor, sAdd, sAddi}
 use Rattle.isa.specs.Names.{sBnz, sBz, sJal, sJr, sLd, sLdi, sMov, sRet, sSt, sUnknown}
-use Rattle.isa.specs.Operands.{writes}
 use Rattle.word.specs.Words.{add32, and32, div32, divu32, ldih32, ldil32, mod32, mul32, mulh32, offset32, or32}
 use Rattle.word.specs.Words.{sll32, slt32, sltu32, sra32, srl32, sub32, xor32}
 

@@ -10,7 +10,7 @@ use Rattle.isa.specs.Names.{Normal, Operands, Or, PrivilegedInstruction,
 use Rattle.isa.specs.Names.{ShortInstruction, Sla, Sll, Slt, Sltu, Sra, Srl, St, Stb, Sth, Sub, Syscall}
 use Rattle.isa.specs.Names.{SyscallException, To, ToMode, Unknown, Write, Xor, sAdd, sAddi, sBnz, sBz, sJal}
 use Rattle.isa.specs.Names.{sJr, sLd, sLdi, sMov, sRet, sSt, sUnknown}
-use Rattle.isa.specs.Operands.{gpr, writes}
+use Rattle.isa.specs.Operands.{gpr}
 use Rattle.word.specs.Command.{arithmetic32}
 use Rattle.word.specs.Words.{add32, ldih32, ldil32, wordOf}
 

@@ -13,7 +13,7 @@ use Rattle.pipeline.specs.Forwarding.{forwarded}
 use Rattle.pipeline.specs.Names.{Decoded, DecodedId, DecodedTo, Done, Executed, Forwarded, ForwardedWord}
 use Rattle.pipeline.specs.Names.{Hazard, IdEx, IfId, Latency, MulDiv, NoHazardTest, NoLatency, NoSources}
 use Rattle.pipeline.specs.Names.{NotDecoded, NotExecuted, NotForwarded, NotMulDiv, PipelineCpu, Sources}
-use Rattle.pipeline.specs.Names.{Ticked, Two, Waits, redirect}
+use Rattle.pipeline.specs.Names.{Ticked, Two, Waits}
 use Rattle.pipeline.specs.Retire.{retire}
 use Rattle.pipeline.specs.Tick.{handedBack, pass, test, verdict}
 

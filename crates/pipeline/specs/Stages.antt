@@ -6,7 +6,6 @@ use lib.Dec.{ltb}
 use mathlib.Core.Bool.{Bool, _&&_, cond, false, not, true}
 use mathlib.Core.List.{List}
 use mathlib.Core.Path.{_≡_}
-use Rattle.isa.specs.Machine.{step}
 use Rattle.isa.specs.Operands.{operandsOf}
 use Rattle.isa.specs.Redirects.{isTo, modeOr, targetOr}
 use Rattle.isa.specs.Short.{decodedOf}
@@ -17,7 +16,6 @@ use Rattle.latch.specs.Memory.{memWbOf}
 use Rattle.latch.specs.Retire.{retiredMode, retiredPc}
 use Rattle.pipeline.specs.Advance.{Taken, advanceBy}
 use Rattle.pipeline.specs.Execute.{executed, redirectOf}
-use Rattle.pipeline.specs.Fetch.{predicted}
 use Rattle.pipeline.specs.Move.{isSlow, move, nextExMem, proceedOr}
 use Rattle.pipeline.specs.Names.{ExMem, Front, IdEx, IfId, Mode, Move, Next, Operands, PipelineCpu, Place}
 use Rattle.pipeline.specs.Names.{Plan, RawInstr, Redirect, Stages, beginWait, keepWaiting, loadUseStall}

@@ -1,17 +1,17 @@
 -- Laws of words read as signed numbers. Assumes nothing.
-use Prim.Native.Nat.{ℕ, zero, suc, _+_, _*_, _/_, _%_, _^_, _-_, _≤_, _<_}
-use mathlib.Core.Path.{_≡_, refl, sym, ap, _∙_, subst}
+use Prim.Native.Nat.{ℕ, zero, suc, _*_, _/_, _^_, _-_, _≤_, _<_}
+use mathlib.Core.Path.{_≡_, refl, sym, _∙_}
 use mathlib.Core.Bool.{Bool, true, false}
 use native.Mathlib.Omega.{arith}
-use native.Mathlib.Nat.{div-le-self, mul-le-mul, lt-of-le-of-lt, le-of-lt, mod-le, le-trans}
+use native.Mathlib.Nat.{div-le-self, mul-le-mul, le-trans}
 use lib.IntN.{ℤ, pos, negsuc, _+ℤ_, _-ℤ_, _*ℤ_, negℤ}
-use lib.Signed.{mag, ltZ, quotZ, remZ, shrZ, mag-rem, mag-shr, nonNeg}
-use lib.Dec.{ltb, T}
+use lib.Signed.{mag, ltZ, quotZ, remZ, shrZ, mag-rem, mag-shr}
+use lib.Dec.{ltb}
 use mir.Syntax.{w16, w32, w64}
-use mir.Val.{toZ, ofZ, sel, SFits, Fits}
-use mir.Facts.{toZ-ofZ, toZ-pos, sfits-toZ, ofZ-toZ}
+use mir.Val.{toZ, ofZ, sel, SFits}
+use mir.Facts.{toZ-ofZ, toZ-pos, sfits-toZ}
 use borrow.Author.Needs.{sfits-of}
-use borrow.Author.Tests.{lt-ltb, le-ltb, ltb-true, ltb-false}
+use borrow.Author.Tests.{lt-ltb, le-ltb, ltb-true}
 use Rattle.word.specs.Words.{signed, wordOf}
 
 -- the machine's bits of a number that fits, read back

@@ -1,5 +1,5 @@
 -- Powers of two at a width in bytes. Assumes nothing.
-use Prim.Native.Nat.{ℕ, zero, suc, _+_, _*_, _%_, _^_, _≤_, _<_}
+use Prim.Native.Nat.{ℕ, zero, suc, _*_, _%_, _^_, _≤_, _<_}
 use mathlib.Core.Path.{_≡_, refl}
 use native.Mathlib.Nat.{mod-eq-of-lt, pow-le-pow-right}
 use native.Mathlib.Omega.{arith}

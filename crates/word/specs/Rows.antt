@@ -1,6 +1,6 @@
 -- The starred rows of arithmetic: one claim about the definitions, proved in proofs/Rows.antt.
 use mathlib.Core.Path.{_≡_}
-use lib.IntN.{pos, negsuc}
+use lib.IntN.{negsuc}
 use Rattle.word.specs.Words.{wordOf, div32, mod32, mulh32, sra32}
 
 pub record Rows : Type 0 where

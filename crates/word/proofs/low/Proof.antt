@@ -1,5 +1,4 @@
 -- `word::low` meets its contract. Assumes nothing.
-use Prim.Native.Nat.{_<_, _^_}
 use mathlib.Core.Bool.{true, false}
 use mathlib.Core.Path.{_≡_, ap}
 use native.Mathlib.Omega.{arith}

@@ -1,11 +1,9 @@
 -- `isa::imm8_signed` meets its contract. Assumes nothing.
 use borrow.Author.Needs.{needs}
 use Prim.Native.Nat.{_%_}
-use mathlib.Core.Path.{_∙_, sym, ap}
+use mathlib.Core.Path.{_∙_, sym}
 use native.Mathlib.Omega.{arith}
-use lib.IntN.{negsuc}
 use mir.Syntax.{w8}
-use mir.Facts.{toZ-pos}
 use borrow.Author.Tests.{lt-ltb, le-ltb}
 use Rattle.isa.proofs.LowBits.{wide-ok, cut-ok, cut}
 use Rattle.isa.specs.Short.{lowBits}
