@@ -2,8 +2,8 @@
 ghost use mathlib.Core.Bool.{cond};
 ghost use mathlib.Core.Path.{_≡_};
 ghost use Rattle.isa.specs.Operands.{operandsOf, okDest, okOperands};
-ghost use Rattle.isa.specs.Fields.{within, isLoad, isStore, isBranch, hasTwo, hasOne, isLink, givesWord, latencyBy};
-ghost use Rattle.isa.specs.Fields.{destIf, operandsBy};
+ghost use Rattle.isa.specs.Fields.{within, isLoad, isStore, isBranch, hasTwo, hasOne, isLink, givesWord};
+ghost use Rattle.isa.specs.Fields.{latencyBy, destIf, operandsBy};
 use crate::Decoded;
 use crate::Dest;
 use crate::Fields;

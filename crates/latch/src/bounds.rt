@@ -1,6 +1,7 @@
 // Refusal 11: the bounds of each latch, valid or not.
 ghost use mathlib.Core.Path.{_≡_};
-ghost use Rattle.latch.specs.Bounds.{badInstruction, badRaw, badDecoded, badWidth, badIfId, badIdEx, badExMem, badMemWb};
+ghost use Rattle.latch.specs.Bounds.{badInstruction, badRaw, badDecoded, badWidth, badIfId, badIdEx};
+ghost use Rattle.latch.specs.Bounds.{badExMem, badMemWb};
 use crate::ExMem;
 use crate::IdEx;
 use crate::IfId;

@@ -1,6 +1,7 @@
 // Memory: the request of EX/MEM and the latch that it makes.
 ghost use mathlib.Core.Path.{_≡_};
-ghost use Rattle.latch.specs.Memory.{loads, stores, memWbOf, requests, requestIn, destAfter, writesAfter, valueAfter};
+ghost use Rattle.latch.specs.Memory.{loads, stores, memWbOf, requests, requestIn};
+ghost use Rattle.latch.specs.Memory.{destAfter, writesAfter, valueAfter};
 use crate::ExMem;
 use crate::MemWb;
 use isa::Dest;

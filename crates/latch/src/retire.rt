@@ -1,7 +1,8 @@
 // Retirement of MEM/WB.
 ghost use mathlib.Core.Path.{_≡_};
 ghost use Rattle.isa.specs.Registers.{putReg};
-ghost use Rattle.latch.specs.Retire.{halts, isFaulty, retiredPc, retiredMode, retireReg, retireCpuid, retiredRegs};
+ghost use Rattle.latch.specs.Retire.{halts, isFaulty, retiredPc, retiredMode};
+ghost use Rattle.latch.specs.Retire.{retireReg, retireCpuid, retiredRegs};
 use crate::MemWb;
 use isa::Dest;
 use isa::Mode;

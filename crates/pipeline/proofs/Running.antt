@@ -16,7 +16,8 @@ use Rattle.pipeline.specs.Move.{move, nextExMem}
 use Rattle.pipeline.specs.Names.{Fetch, Given, IdEx, Mode, Move, PipelineCpu, Plan, RawInstr, Request, Stages}
 use Rattle.pipeline.specs.Names.{beginWait, keepWaiting, loadUseStall, proceed, redirect}
 use Rattle.pipeline.specs.Retire.{retire}
-use Rattle.pipeline.specs.Stages.{Room, frontOf, idExFrom, placeFrom, planOf, predictIf, stagesOf, view}
+use Rattle.pipeline.specs.Stages.{Room, advancePlan, frontOf, idExFrom, placeFrom, planOf, predictIf}
+use Rattle.pipeline.specs.Stages.{stagesOf, view}
 use Rattle.pipeline.specs.Tick.{rawOf, taken, wordIn}
 
 pub view-stages : (s : PipelineCpu) → view (stagesOf s) (s .reg) ≡ s
@@ -106,13 +107,12 @@ advanced v x =
 by-stages :
     (l : Stages) →
     (rs : List ℕ) →
-    (x : Taken) →
-    advanceBy ((planOf (view l rs)) .step) ((planOf (view l rs)) .«ex_mem»)
-    (idExFrom (l .«if_id») ((planOf (view l rs)) .front) rs)
-    (((planOf (view l rs)) .place) .pc, ((planOf (view l rs)) .place) .mode) (view l rs) x
-    ≡ advance (move (view l rs)) (view l rs) x
-unfolding view
-by-stages l rs x = advanced (view l rs) x
+    (i : RawInstr) →
+    (w : ℕ) →
+    advancePlan (planOf (view l rs)) l rs i w
+    ≡ advance (move (view l rs)) (view l rs) (record { answer = w; raw = i })
+unfolding advancePlan view
+by-stages l rs i w = advanced (view l rs) (record { answer = w; raw = i })
 
 -- the state after the tick, by the stages after the move of the plan
 pub advance-next :
@@ -124,16 +124,13 @@ pub advance-next :
     view l rs ≡ retire s →
     p ≡ planOf (view l rs) →
     s .running ≡ true →
-    view a rs
-    ≡ advanceBy (p .step) (p .«ex_mem») (idExFrom (l .«if_id») (p .front) rs) ((p .place) .pc, (p .place) .mode)
-    (view l rs) (taken t) →
+    view a rs ≡ advancePlan p l rs (rawOf (t .offer)) (wordIn (t .answer)) →
     view a rs ≡ next s (taken t)
-unfolding next awake
+unfolding next awake taken
 advance-next s l a rs p t e q r h =
     h
-    ∙ ap (λ (y : Plan). advanceBy (y .step) (y .«ex_mem») (idExFrom (l .«if_id») (y .front) rs)
-    ((y .place) .pc, (y .place) .mode) (view l rs) (taken t)) q
-    ∙ by-stages l rs (taken t)
+    ∙ ap (λ (y : Plan). advancePlan y l rs (rawOf (t .offer)) (wordIn (t .answer))) q
+    ∙ by-stages l rs (rawOf (t .offer)) (wordIn (t .answer))
     ∙ ap (λ (v : PipelineCpu). advance (move v) v (taken t)) e
     ∙ sym (ap (λ (b : Bool). cond b (advance (move (retire s)) (retire s) (taken t)) (resting s)) r)
 
@@ -220,17 +217,10 @@ pub run-next :
     s .running ≡ true →
     w ≡ wordIn (t .answer) →
     i ≡ rawOf (t .offer) →
-    view a rs
-    ≡ advanceBy (p .step) (p .«ex_mem») (idExFrom (l .«if_id») (p .front) rs) ((p .place) .pc, (p .place) .mode)
-    (view l rs) (record { answer = w; raw = i }) →
+    view a rs ≡ advancePlan p l rs i w →
     view a rs ≡ next s (taken t)
-unfolding taken
 run-next s l a rs p t w i e q r ew ei h =
     advance-next s l a rs p t e q r
     (h
-    ∙ ap (λ (y : ℕ). advanceBy (p .step) (p .«ex_mem») (idExFrom (l .«if_id») (p .front) rs)
-    ((p .place) .pc, (p .place) .mode) (view l rs) (record { answer = y; raw = i }))
-    ew
-    ∙ ap (λ (y : RawInstr). advanceBy (p .step) (p .«ex_mem») (idExFrom (l .«if_id») (p .front) rs)
-    ((p .place) .pc, (p .place) .mode) (view l rs) (record { answer = wordIn (t .answer); raw = y }))
-    ei)
+    ∙ ap (λ (y : ℕ). advancePlan p l rs i y) ew
+    ∙ ap (λ (y : RawInstr). advancePlan p l rs y (wordIn (t .answer))) ei)

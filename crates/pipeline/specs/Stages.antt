@@ -234,6 +234,16 @@ unfoldable pub Holds : Stages → Move → ExMem → ℕ → Stages → Type 0
 Holds l m x a r = (d : IdEx) → (p : ℕ × Mode) → (i : RawInstr) → Advances l m x d p (record { answer = a; raw = i })
     r
 
+-- the same for a move that fetches i from a place
+unfoldable pub Fetches : Stages → Move → ExMem → IdEx → Place → RawInstr → ℕ → Stages → Type 0
+Fetches l m x d p i a r = Advances l m x d (p .pc, p .mode) (record { answer = a; raw = i }) r
+
+-- the state after the move of a plan
+unfoldable pub advancePlan : Plan → Stages → List ℕ → RawInstr → ℕ → PipelineCpu
+advancePlan p l rs i a =
+    advanceBy (p .step) (p .«ex_mem») (idExFrom (l .«if_id») (p .front) rs) ((p .place) .pc, (p .place) .mode)
+    (view l rs) (record { answer = a; raw = i })
+
 -- room for one more in each counter that a move counts in
 pub record Room (l : Stages) : Type 0 where
   pub cycles : l .cycles < 18446744073709551615

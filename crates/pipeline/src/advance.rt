@@ -3,10 +3,9 @@ ghost use Prim.Native.Nat.{_-_};
 ghost use mathlib.Core.Bool.{cond};
 ghost use mathlib.Core.Path.{_≡_};
 ghost use Rattle.latch.specs.Latches.{cleared, emptyIdEx};
-ghost use Rattle.pipeline.specs.Advance.{advanceBy};
 ghost use Rattle.pipeline.specs.Fetch.{fetched};
 ghost use Rattle.pipeline.specs.Names.{keepWaiting, beginWait, loadUseStall, proceed, redirect};
-ghost use Rattle.pipeline.specs.Stages.{Room, view, shifted, Advances, Holds, idExFrom};
+ghost use Rattle.pipeline.specs.Stages.{Room, view, shifted, Fetches, Holds, advancePlan};
 use crate::Move;
 use crate::Place;
 use crate::Plan;
@@ -128,7 +127,7 @@ impl Stages {
     // IF/ID is decoded and the place fetched from.
     fn proceed(self, ex_mem: ExMem, id_ex: IdEx, place: Place, raw: RawInstr, answer: u32) -> Stages
         requires { ⌜ Room self ⌝ }
-        ensures { λ r. ⌜ Advances self proceed «ex_mem» «id_ex» (place .pc, place .mode) (record { answer = answer; raw = raw }) r ⌝ }
+        ensures { λ r. ⌜ Fetches self proceed «ex_mem» «id_ex» place raw answer r ⌝ }
     {
         let mode = place.mode;
         let f = self.if_id;
@@ -156,7 +155,7 @@ impl Stages {
         answer: u32,
     ) -> Stages
         requires { ⌜ Room self ⌝ }
-        ensures { λ r. ⌜ Advances self (redirect (target .pc) (target .mode)) «ex_mem» emptyIdEx (place .pc, place .mode) (record { answer = answer; raw = raw }) r ⌝ }
+        ensures { λ r. ⌜ Fetches self (redirect (target .pc) (target .mode)) «ex_mem» emptyIdEx place raw answer r ⌝ }
     {
         let f = self.if_id;
         let new = fetched(self.running, f, place, raw);
@@ -175,7 +174,7 @@ impl Stages {
     // The stages after the move of a plan.
     pub(crate) fn advance(self, plan: Plan, raw: RawInstr, answer: u32, reg: &[u32; 32]) -> Stages
         requires { ⌜ Room self ⌝ }
-        ensures { λ r. ⌜ view r (now (reg .entry)) ≡ advanceBy (plan .step) (plan .«ex_mem») (idExFrom (self .«if_id») (plan .front) (now (reg .entry))) (plan .place .pc, plan .place .mode) (view self (now (reg .entry))) (record { answer = answer; raw = raw }) ⌝ }
+        ensures { λ r. ⌜ view r (now (reg .entry)) ≡ advancePlan plan self (now (reg .entry)) raw answer ⌝ }
     {
         let ex_mem = plan.ex_mem;
         let place = plan.place;

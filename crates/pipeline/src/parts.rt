@@ -1,6 +1,7 @@
 // The parts of the tick called by themselves.
 ghost use mathlib.Core.Path.{_≡_};
-ghost use Rattle.pipeline.specs.Parts.{forwardedPart, executePart, decodePart, sourcesPart, latencyFrom, mulDivPart, hazardPart, retirePart};
+ghost use Rattle.pipeline.specs.Parts.{forwardedPart, executePart, decodePart, sourcesPart, latencyFrom};
+ghost use Rattle.pipeline.specs.Parts.{mulDivPart, hazardPart, retirePart};
 use crate::DecodedId;
 use crate::Executed;
 use crate::Execution;

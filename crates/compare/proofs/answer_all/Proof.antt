@@ -1,4 +1,5 @@
--- `compare::answer_all` is safe and ends. The buffers keep their lengths; the measure is the number of turns that are left. Assumes nothing.
+-- `compare::answer_all` is safe and ends. Assumes nothing.
+-- The buffers keep their lengths; the measure is the number of turns that are left.
 use lib.ListN.{length}
 use mathlib.Core.Path.{_≡_}
 use borrow.Author.Needs.{needs}
@@ -6,7 +7,8 @@ use Rattle.compare.proofs.answer_all.Statement.{statement}
 use Rattle.compare.proofs.answer_all.Tie as tie
 
 abbrev Inv-loop : tie.InvT-loop
-Inv-loop buf₀ out₀ numbers₀ held₀ i₀ to₀ turns₀ buf out numbers held i to turns = (length buf ≡ length buf₀) × (length out ≡ length out₀)
+Inv-loop buf₀ out₀ numbers₀ held₀ i₀ to₀ turns₀ buf out numbers held i to turns =
+    (length buf ≡ length buf₀) × (length out ≡ length out₀)
 
 abbrev μ-loop : tie.MeasureT-loop
 μ-loop buf₀ out₀ numbers₀ held₀ i₀ to₀ turns₀ buf out numbers held i to turns = turns

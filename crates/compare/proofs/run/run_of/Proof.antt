@@ -1,4 +1,5 @@
--- `compare::run_of` is safe, ends and goes on by a byte at least. The place never falls behind where the run begins. Assumes nothing.
+-- `compare::run_of` is safe, ends and goes on by a byte at least. Assumes nothing.
+-- The place never falls behind where the run begins.
 use Prim.Native.Nat.{_-_, _≤_}
 use borrow.Author.Tests.{ltb-false}
 use mathlib.Core.Logic.{⊎-elim}

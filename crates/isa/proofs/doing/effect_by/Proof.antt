@@ -48,5 +48,13 @@ effect-by-spec = tie.close (tie.spec
     (λ c κs. search needs) (λ c κs. search needs) (λ c κs. search needs) (λ c κs. search needs)
     (λ c κs. search needs) (λ c κs. search needs) (λ c κs. search needs) (λ c κs. search needs)
     (λ c κs. search needs) (λ c κs. search needs) (λ c κs. search needs)
-    (λ c. made _ _ _ _ _
-    (c .before .before .before .before .before .before .before .before .before .before .before .before .before .before .before .before .before .before .next-by .ensures) (c .before .before .before .before .before .before .before .before .before .before .before .before .before .before .before .before .before .to-short .ensures) (c .before .before .before .before .before .before .before .before .before .before .before .before .before .before .before .before .within .ensures) (c .before .before .before .before .before .before .before .before .before .before .before .before .before .before .before .result-by .ensures) (c .before .before .before .before .before .before .before .before .before .before .before .before .before .before .address-by .ensures) (c .before .before .before .before .before .before .before .before .before .before .before .before .before .is-store .ensures) (c .before .before .before .before .before .before .before .before .before .before .before .before .sel .ensures) (c .before .before .before .before .before .before .before .before .before .before .before .size-by .ensures) (c .before .before .before .before .before .before .before .before .before .before .is-load .ensures) (c .before .before .before .before .before .before .before .before .before .gives-word .ensures) (c .before .before .before .before .before .before .before .before .is-load2 .ensures) (c .before .before .before .before .before .before .before .is-link .ensures) (c .before .before .before .before .before .before .taken-by .ensures) (c .before .before .before .before .before .target-by .ensures) (c .before .before .before .before .mode-if .ensures) (c .before .before .before .redirect-if .ensures) (c .before .before .new-mode-by .ensures) (c .before .exception-by .ensures) (c .mtsr-if .ensures)))
+    (λ c. let c4 = c .before .before .before .before in let c8 = c4 .before .before .before .before in
+    let c12 = c8 .before .before .before .before in let c16 = c12 .before .before .before .before in
+    made _ _ _ _ _
+    (c16 .before .before .next-by .ensures) (c16 .before .to-short .ensures) (c16 .within .ensures)
+    (c12 .before .before .before .result-by .ensures) (c12 .before .before .address-by .ensures)
+    (c12 .before .is-store .ensures) (c12 .sel .ensures) (c8 .before .before .before .size-by .ensures)
+    (c8 .before .before .is-load .ensures) (c8 .before .gives-word .ensures) (c8 .is-load2 .ensures)
+    (c4 .before .before .before .is-link .ensures) (c4 .before .before .taken-by .ensures)
+    (c4 .before .target-by .ensures) (c4 .mode-if .ensures) (c .before .before .before .redirect-if .ensures)
+    (c .before .before .new-mode-by .ensures) (c .before .exception-by .ensures) (c .mtsr-if .ensures)))

@@ -4,12 +4,12 @@ use mathlib.Core.Path.{sym}
 use Rattle.latch.specs.Latches.{emptyIdEx}
 use Rattle.pipeline.specs.Advance.{advanceBy}
 use Rattle.pipeline.specs.Names.{Nop, Normal, RawNormal}
-use Rattle.pipeline.specs.Stages.{Advances, Holds, view}
+use Rattle.pipeline.specs.Stages.{Advances, Fetches, Holds, advancePlan, view}
 use Rattle.pipeline.proofs.Stages.advance.Statement.{statement}
 use Rattle.pipeline.proofs.Stages.advance.Tie as tie
 
 pub advance-spec : {M : Type 1} → statement M
-unfolding Holds Advances advanceBy view
+unfolding Holds Fetches Advances advancePlan advanceBy view
 advance-spec = tie.close (tie.spec
     (λ c. search needs) (λ c κs. search needs) (λ c. search needs) (λ c κs. search needs)
     (λ c. search needs) (λ c κs. search needs) (λ c. search needs) (λ c κs. search needs)

@@ -1,4 +1,5 @@
--- `compare::next_line` is safe and ends. The buffer keeps its length; the measure is the number of turns that are left. Assumes nothing.
+-- `compare::next_line` is safe and ends. Assumes nothing.
+-- The buffer keeps its length; the measure is the number of turns that are left.
 use lib.ListN.{length}
 use mathlib.Core.Path.{_≡_}
 use borrow.Author.Needs.{needs}

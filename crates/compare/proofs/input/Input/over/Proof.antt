@@ -1,4 +1,5 @@
--- `compare::over` is safe and ends. Nothing has to hold from turn to turn: each goes on by a byte at least. Assumes nothing.
+-- `compare::over` is safe and ends. Assumes nothing.
+-- Nothing has to hold from turn to turn: each goes on by a byte at least.
 use Prim.Native.Nat.{_-_}
 use borrow.Author.Tests.{ltb-true}
 use native.Mathlib.Omega.{arith}
