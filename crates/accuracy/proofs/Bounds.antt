@@ -20,7 +20,8 @@ use Rattle.latch.specs.Memory.{destAfter, loads, memWbOf, stores, valueAfter, w
 use Rattle.latch.specs.Retire.{halts}
 use Rattle.accuracy.proofs.Instructions.{short-ok, sources-in, waits-in, width-in}
 use Rattle.accuracy.proofs.Passed.{Passed, passed}
-use Rattle.pipeline.specs.Advance.{Taken, advance, advanceBy, awake, idle, next, resting}
+use Rattle.pipeline.specs.Advance.{Taken, advance, advanceBy, awake, idle, next, proceeding, redirecting, resting}
+use Rattle.pipeline.specs.Advance.{stalling, waiting}
 use Rattle.pipeline.specs.Ask.{broken}
 use Rattle.pipeline.specs.Execute.{effectFor, executed, executedBy}
 use Rattle.pipeline.specs.Fetch.{fetchPlace, fetched, nextIdEx}
@@ -176,7 +177,7 @@ retire-in s w = split (halts (s .«mem_wb»))
     })
 
 advance-in : (m : Move) (s : PipelineCpu) (x : Taken) → Within s → badRaw (x .raw) ≡ false → Within (advance m s x)
-unfolding advance advanceBy nextExMem
+unfolding advance advanceBy waiting stalling proceeding redirecting nextExMem
 advance-in keepWaiting s y w h = record {
   «if_id» = w .«if_id»;
   «id_ex» = w .«id_ex»;

@@ -31,7 +31,7 @@ use Rattle.accuracy.proofs.Path.{xm-regs-at, xmAt}
 use Rattle.accuracy.proofs.Registers.{fwd-load, fwd-xm, length-cpu, length-put, read-put, zero-cpu, zero-put}
 use Rattle.accuracy.proofs.Registers.{zero-read}
 use Rattle.accuracy.specs.Accuracy.{answers}
-use Rattle.pipeline.specs.Advance.{Taken, advance, advanceBy}
+use Rattle.pipeline.specs.Advance.{Taken, advance, advanceBy, proceeding, redirecting, stalling, waiting}
 use Rattle.pipeline.specs.Ask.{asks}
 use Rattle.accuracy.specs.Count.{count, predictAt}
 use Rattle.pipeline.specs.Execute.{effectFor, executed, executedBy, operandB, redirectBy, redirectOf}
@@ -592,7 +592,7 @@ module _ (prog : Program) (w₀ : Arch) where
           due prog w₀ m ≡ suc t + 3 + waits (I m) → okAt prog (W m) ≡ true → okIn (decodedOf (inp .raw))
           ((fetchPlace proceed s) .1) ≡ true
           → FrontOf (advance proceed s inp) (suc t) m
-      unfolding advance advanceBy nextExMem
+      unfolding advance advanceBy proceeding nextExMem
       front-flow m inp e p q h d o oi =
           let pl = place-is (predictAt prog (W m)) (fall ((W m) .pc) ((W m) .mode)) ((W m) .mode) (aim-at m e) p q
           in
@@ -612,7 +612,7 @@ module _ (prog : Program) (w₀ : Arch) where
           due prog w₀ m ≡ suc t + 4 + waits (I m) → okIn (decodedOf (inp .raw))
           ((fetchPlace proceed s) .1) ≡ true
           → FrontOf (advance proceed s inp) (suc t) m
-      unfolding advance advanceBy nextExMem instructionAt targetOr modeOr nextIdEx okAt
+      unfolding advance advanceBy proceeding nextExMem instructionAt targetOr modeOr nextIdEx okAt
       front-fetch m inp x e p q h d oi =
           let pl = place-is Next ((W m) .pc) ((W m) .mode) (aim-none e) p q in
           let fe = fetched-is _ _ (inp .raw) pl h in
@@ -636,7 +636,7 @@ module _ (prog : Program) (w₀ : Arch) where
         go-f0 : s .«id_ex» ≡ emptyIdEx → (s .«if_id») .valid ≡ false → s .«ex_armed» ≡ false → s .«fetch_pc» ≡
             (W n₂) .pc → s .«fetch_mode» ≡ (W n₂) .mode
             → due prog w₀ n₂ ≡ t + 5 + waits (I n₂) → Ahead (move s) inp
-        unfolding advance advanceBy nextExMem fetches
+        unfolding advance advanceBy proceeding nextExMem fetches
         go-f0 x e a p q d =
             let mv = move-empty x a in
             by-move proceed mv (
@@ -650,7 +650,7 @@ module _ (prog : Program) (w₀ : Arch) where
         go-f1 : s .«id_ex» ≡ emptyIdEx → OnPath n₂ → s .«ex_armed» ≡ false → s .«fetch_pc» ≡ fall ((W n₂) .pc)
             ((W n₂) .mode) → s .«fetch_mode» ≡ (W n₂) .mode
             → due prog w₀ n₂ ≡ t + 4 + waits (I n₂) → okAt prog (W n₂) ≡ true → Ahead (move s) inp
-        unfolding advance advanceBy nextExMem fetches
+        unfolding advance advanceBy proceeding nextExMem fetches
         go-f1 x e a p q d o =
             let mv = move-empty x a in
             by-move proceed mv (
@@ -711,7 +711,7 @@ module _ (prog : Program) (w₀ : Arch) where
             due-next b e h = due-suc n₂ ∙ rw (e, h) (omega arith)
 
             go-stall : due prog w₀ n₂ ≡ t + 3 → hazard s ≡ true → Ahead (loadUseStall Next) inp
-            unfolding advance advanceBy nextExMem bit isTo targetOr modeOr
+            unfolding advance advanceBy stalling nextExMem bit isTo targetOr modeOr
             go-stall d h =
                 let eo = load-turn prog (W n₂) (hazard-load h) in
                 let dn = due-next true eo (sym (hazard-next eo) ∙ h) in (
@@ -726,7 +726,7 @@ module _ (prog : Program) (w₀ : Arch) where
             go-flow : due prog w₀ n₂ ≡ t + 3 → hazard s ≡ false → turnAt prog (W n₂) ≡ Next → move s ≡ proceed →
                 Ahead
                 proceed inp
-            unfolding advance advanceBy nextExMem bit fetches
+            unfolding advance advanceBy proceeding nextExMem bit fetches
             go-flow d h eo mv =
                 let dn = due-next false eo (sym (hazard-next eo) ∙ h) in (
                   suc n₂,
@@ -744,7 +744,7 @@ module _ (prog : Program) (w₀ : Arch) where
 
             go-flush : due prog w₀ n₂ ≡ t + 3 → (p : ℕ) (m : Mode) → turnAt prog (W n₂) ≡ To p m → Ahead
                 (redirect p m) inp
-            unfolding advance advanceBy nextExMem cleared walk
+            unfolding advance advanceBy redirecting nextExMem cleared walk
             go-flush d p m e =
                 let g = next-turned prog (W n₂) p m e in (
                   suc n₂,
@@ -756,7 +756,7 @@ module _ (prog : Program) (w₀ : Arch) where
 
             go-hold : s .«ex_armed» ≡ true → suc (due prog w₀ n₂) ≡ t + 3 + s .«ex_cycles_left» → 1 <
                 s .«ex_cycles_left» → s .«ex_cycles_left» ≤ waits (I n₂) → Ahead keepWaiting inp
-            unfolding advance advanceBy nextExMem
+            unfolding advance advanceBy waiting nextExMem
             go-hold a d l w = (
               n₂,
               assemble (advance keepWaiting s inp) (inp .answer) n₂ hv refl refl refl refl refl
@@ -771,7 +771,7 @@ module _ (prog : Program) (w₀ : Arch) where
             waits-dx = ap (λ (l : IdEx). waits (l .decoded)) dxe
 
             go-arm : due prog w₀ n₂ ≡ t + 3 + waits (I n₂) → 0 < waits (I n₂) → Ahead beginWait inp
-            unfolding advance advanceBy nextExMem
+            unfolding advance advanceBy waiting nextExMem
             go-arm d l = let q = waits-dx in (
               n₂,
               assemble (advance beginWait s inp) (inp .answer) n₂ hv refl refl

@@ -13,7 +13,8 @@ use Rattle.isa.specs.Short.{decodedOf}
 use Rattle.accuracy.proofs.Accuracy.{demand3}
 use Rattle.accuracy.proofs.Took.{advance-retired, took}
 use Rattle.accuracy.specs.Accuracy.{Meets, Offers, Retires, Run, TakesWhole, after, arch, begin, one, oneBy}
-use Rattle.pipeline.specs.Advance.{Taken, advance, advanceBy, awake, idle, next, resting}
+use Rattle.pipeline.specs.Advance.{Taken, advance, advanceBy, awake, idle, next, proceeding, redirecting, resting}
+use Rattle.pipeline.specs.Advance.{stalling, waiting}
 use Rattle.pipeline.specs.Ask.{brimming, broken, fetchAt, stuck, wantFetch, wantLoad}
 use Rattle.pipeline.specs.Move.{move, nextExMem}
 use Rattle.accuracy.specs.Names.{Given, Instr, Mode, Move, NoAnswer, Normal, Nothing, PipelineCpu, RawInstr}
@@ -75,7 +76,7 @@ more-count r (t ∷ ts) = let h = one-count r t in let k = more-count (one r t) 
 
 -- the number of an accepted tick is the tick counter
 advance-ticks : (m : Move) (s : PipelineCpu) (x : Taken) → (advance m s x) .cycles ≡ s .cycles + 1
-unfolding advance advanceBy nextExMem
+unfolding advance advanceBy waiting stalling proceeding redirecting nextExMem
 advance-ticks keepWaiting s x = refl
 advance-ticks beginWait s x = refl
 advance-ticks (loadUseStall g) s x = refl

@@ -18,7 +18,8 @@ use Rattle.latch.specs.Latches.{cleared, emptyExMem, emptyIdEx, emptyIfId, empt
 use Rattle.latch.specs.Memory.{destAfter, loads, memWbOf, requests, stores, valueAfter, writesAfter}
 use Rattle.latch.specs.Retire.{halts, isFaulty, retireCpuid, retireReg, retiredMode, retiredPc, retiredRegs}
 use Rattle.accuracy.specs.Accuracy.{after, archWith, begin, one, oneBy}
-use Rattle.pipeline.specs.Advance.{advance, advanceBy, awake, idle, next, resting}
+use Rattle.pipeline.specs.Advance.{advance, advanceBy, awake, idle, next, proceeding, redirecting, resting}
+use Rattle.pipeline.specs.Advance.{stalling, waiting}
 use Rattle.pipeline.specs.Ask.{asks, brimming, broken, fetchAt, isFull, stuck, wantFetch, wantLoad}
 use Rattle.accuracy.specs.Count.{count, divides, isRedirect, multiplies, path, predictAt, redirects}
 use Rattle.accuracy.specs.Count.{retireTick, usedLoads}
@@ -55,7 +56,8 @@ unfolding isReg bit add32 sub32 offset32 and32 or32 xor32 sll32 srl32 sra32 slt3
     retiredPc retiredMode isFaulty badInstruction badRaw badDecoded badWidth badIfId badIdEx badExMem badMemWb
     forwarded operandB effectFor executed executedBy redirectOf redirectBy retire hazard proceedOr chooseFree
     chooseDone choose move isSlow
-    predicted fetchPlace fetches fetched nextIdEx advance advanceBy nextExMem idle awake resting next fresh
+    predicted fetchPlace fetches fetched nextIdEx advance advanceBy waiting stalling proceeding redirecting nextExMem
+    idle awake resting next fresh
     wantFetch fetchAt asks
     wantLoad broken stuck isFull brimming badOffer mfsrOffer fitsOffer isAnswer same rawOf wordIn taken verdict
     givenTests tests tick handedBack ticked predictAt isRedirect count multiplies divides usedLoads redirects

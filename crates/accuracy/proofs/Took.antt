@@ -9,7 +9,7 @@ use Rattle.latch.specs.Retire.{halts}
 use Rattle.accuracy.proofs.Instructions.{okIn}
 use Rattle.accuracy.proofs.Passed.{Passed, passed}
 use Rattle.accuracy.specs.Accuracy.{said}
-use Rattle.pipeline.specs.Advance.{Taken, advance, advanceBy, next}
+use Rattle.pipeline.specs.Advance.{Taken, advance, advanceBy, next, proceeding, redirecting, stalling, waiting}
 use Rattle.pipeline.specs.Ask.{fetchAt, stuck, wantFetch, wantLoad}
 use Rattle.pipeline.specs.Move.{nextExMem}
 use Rattle.accuracy.specs.Names.{Answer, Given, Instr, Mode, Move, NoAnswer, Normal, Nothing, Offer}
@@ -77,7 +77,7 @@ retire-off s e = rw e
 
 -- what every move leaves alone
 pub advance-running : (m : Move) (s : PipelineCpu) (inp : Taken) → (advance m s inp) .running ≡ s .running
-unfolding advance advanceBy nextExMem
+unfolding advance advanceBy waiting stalling proceeding redirecting nextExMem
 advance-running keepWaiting s inp = refl
 advance-running beginWait s inp = refl
 advance-running (loadUseStall g) s inp = refl
@@ -86,7 +86,7 @@ advance-running (redirect p m) s inp = refl
 
 pub advance-retired : (m : Move) (s : PipelineCpu) (inp : Taken) → (advance m s inp) .«instructions_executed» ≡
     s .«instructions_executed»
-unfolding advance advanceBy nextExMem
+unfolding advance advanceBy waiting stalling proceeding redirecting nextExMem
 advance-retired keepWaiting s inp = refl
 advance-retired beginWait s inp = refl
 advance-retired (loadUseStall g) s inp = refl
@@ -94,7 +94,7 @@ advance-retired proceed s inp = refl
 advance-retired (redirect p m) s inp = refl
 
 pub advance-regs : (m : Move) (s : PipelineCpu) (inp : Taken) → (advance m s inp) .reg ≡ s .reg
-unfolding advance advanceBy nextExMem
+unfolding advance advanceBy waiting stalling proceeding redirecting nextExMem
 advance-regs keepWaiting s inp = refl
 advance-regs beginWait s inp = refl
 advance-regs (loadUseStall g) s inp = refl
@@ -102,7 +102,7 @@ advance-regs proceed s inp = refl
 advance-regs (redirect p m) s inp = refl
 
 pub advance-retire-pc : (m : Move) (s : PipelineCpu) (inp : Taken) → (advance m s inp) .«retire_pc» ≡ s .«retire_pc»
-unfolding advance advanceBy nextExMem
+unfolding advance advanceBy waiting stalling proceeding redirecting nextExMem
 advance-retire-pc keepWaiting s inp = refl
 advance-retire-pc beginWait s inp = refl
 advance-retire-pc (loadUseStall g) s inp = refl
@@ -111,7 +111,7 @@ advance-retire-pc (redirect p m) s inp = refl
 
 pub advance-retire-mode : (m : Move) (s : PipelineCpu) (inp : Taken) → (advance m s inp) .«retire_mode» ≡
     s .«retire_mode»
-unfolding advance advanceBy nextExMem
+unfolding advance advanceBy waiting stalling proceeding redirecting nextExMem
 advance-retire-mode keepWaiting s inp = refl
 advance-retire-mode beginWait s inp = refl
 advance-retire-mode (loadUseStall g) s inp = refl

@@ -8,8 +8,8 @@ use Rattle.latch.specs.Latches.{cleared, emptyIdEx}
 use Rattle.latch.specs.Memory.{memWbOf}
 use Rattle.pipeline.specs.Fetch.{fetchPlace, fetched, nextIdEx}
 use Rattle.pipeline.specs.Move.{move, nextExMem}
-use Rattle.pipeline.specs.Names.{ExMem, IdEx, Mode, Move, PipelineCpu, RawInstr, beginWait, keepWaiting}
-use Rattle.pipeline.specs.Names.{loadUseStall, proceed, redirect}
+use Rattle.pipeline.specs.Names.{ExMem, IdEx, Mode, Move, PipelineCpu, RawInstr, Redirect, beginWait}
+use Rattle.pipeline.specs.Names.{keepWaiting, loadUseStall, proceed, redirect}
 use Rattle.pipeline.specs.Retire.{retire}
 use Rattle.word.specs.Words.{bit}
 
@@ -18,9 +18,12 @@ pub record Taken : Type 0 where
   pub answer : ℕ
   pub raw : RawInstr
 
--- l: the next EX/MEM; d: the next ID/EX where the move decodes; p: the place that it fetches from
-unfoldable pub advanceBy : Move → ExMem → IdEx → ℕ × Mode → PipelineCpu → Taken → PipelineCpu
-advanceBy keepWaiting l d p s x = record {
+-- Four ways to go on. l: the next EX/MEM; a: the load's answer; i: the instruction offered; p: the place that is
+-- fetched from. All but the first end a wait that was under way.
+
+-- a wait in EX with n ticks left: ID/EX and the front end stay as they are; one more stall
+unfoldable pub waiting : ℕ → ExMem → ℕ → PipelineCpu → PipelineCpu
+waiting n l a s = record {
   reg = s .reg;
   «fetch_pc» = s .«fetch_pc»;
   «fetch_mode» = s .«fetch_mode»;
@@ -32,37 +35,19 @@ advanceBy keepWaiting l d p s x = record {
   «if_id» = s .«if_id»;
   «id_ex» = s .«id_ex»;
   «ex_mem» = l;
-  «mem_wb» = memWbOf (s .«ex_mem») (x .answer);
+  «mem_wb» = memWbOf (s .«ex_mem») a;
   «ex_armed» = true;
-  «ex_cycles_left» = s .«ex_cycles_left» - 1;
+  «ex_cycles_left» = n;
   cycles = s .cycles + 1;
   «running_cycles» = s .«running_cycles» + 1;
   «instructions_executed» = s .«instructions_executed»;
   «stall_cycles» = s .«stall_cycles» + 1;
   «flush_events» = s .«flush_events»;
 }
-advanceBy beginWait l d p s x = record {
-  reg = s .reg;
-  «fetch_pc» = s .«fetch_pc»;
-  «fetch_mode» = s .«fetch_mode»;
-  «retire_pc» = s .«retire_pc»;
-  «retire_mode» = s .«retire_mode»;
-  running = s .running;
-  user = s .user;
-  features = s .features;
-  «if_id» = s .«if_id»;
-  «id_ex» = s .«id_ex»;
-  «ex_mem» = l;
-  «mem_wb» = memWbOf (s .«ex_mem») (x .answer);
-  «ex_armed» = true;
-  «ex_cycles_left» = waits ((s .«id_ex») .decoded);
-  cycles = s .cycles + 1;
-  «running_cycles» = s .«running_cycles» + 1;
-  «instructions_executed» = s .«instructions_executed»;
-  «stall_cycles» = s .«stall_cycles» + 1;
-  «flush_events» = s .«flush_events»;
-}
-advanceBy (loadUseStall g) l d p s x = record {
+
+-- a used load: ID/EX is emptied and the front end held, unless g redirects it, which is one more flush; one more stall
+unfoldable pub stalling : Redirect → ExMem → ℕ → PipelineCpu → PipelineCpu
+stalling g l a s = record {
   reg = s .reg;
   «fetch_pc» = targetOr g (s .«fetch_pc»);
   «fetch_mode» = modeOr g (s .«fetch_mode»);
@@ -74,7 +59,7 @@ advanceBy (loadUseStall g) l d p s x = record {
   «if_id» = cond (isTo g) (cleared (s .«if_id»)) (s .«if_id»);
   «id_ex» = emptyIdEx;
   «ex_mem» = l;
-  «mem_wb» = memWbOf (s .«ex_mem») (x .answer);
+  «mem_wb» = memWbOf (s .«ex_mem») a;
   «ex_armed» = false;
   «ex_cycles_left» = cond (s .«ex_armed») 0 (s .«ex_cycles_left»);
   cycles = s .cycles + 1;
@@ -83,20 +68,22 @@ advanceBy (loadUseStall g) l d p s x = record {
   «stall_cycles» = s .«stall_cycles» + 1;
   «flush_events» = s .«flush_events» + bit (isTo g);
 }
-advanceBy proceed l d p s x = record {
+
+-- no wait and no redirect: d, the decoded IF/ID, is the next ID/EX, and a running machine fetches
+unfoldable pub proceeding : ExMem → IdEx → ℕ × Mode → RawInstr → ℕ → PipelineCpu → PipelineCpu
+proceeding l d p i a s = record {
   reg = s .reg;
-  «fetch_pc» =
-      cond (s .running) (fall (p .0) (p .1)) (p .0);
+  «fetch_pc» = cond (s .running) (fall (p .0) (p .1)) (p .0);
   «fetch_mode» = p .1;
   «retire_pc» = s .«retire_pc»;
   «retire_mode» = s .«retire_mode»;
   running = s .running;
   user = s .user;
   features = s .features;
-  «if_id» = fetched (s .running) (s .«if_id») p (x .raw);
+  «if_id» = fetched (s .running) (s .«if_id») p i;
   «id_ex» = d;
   «ex_mem» = l;
-  «mem_wb» = memWbOf (s .«ex_mem») (x .answer);
+  «mem_wb» = memWbOf (s .«ex_mem») a;
   «ex_armed» = false;
   «ex_cycles_left» = cond (s .«ex_armed») 0 (s .«ex_cycles_left»);
   cycles = s .cycles + 1;
@@ -105,7 +92,10 @@ advanceBy proceed l d p s x = record {
   «stall_cycles» = s .«stall_cycles»;
   «flush_events» = s .«flush_events»;
 }
-advanceBy (redirect q m) l d p s x = record {
+
+-- a redirect to q in mode m: what was decoded and what is fetched are both emptied; one more flush
+unfoldable pub redirecting : ℕ → Mode → ExMem → ℕ × Mode → RawInstr → ℕ → PipelineCpu → PipelineCpu
+redirecting q m l p i a s = record {
   reg = s .reg;
   «fetch_pc» = q;
   «fetch_mode» = m;
@@ -114,11 +104,10 @@ advanceBy (redirect q m) l d p s x = record {
   running = s .running;
   user = s .user;
   features = s .features;
-  «if_id» = cleared (fetched (s .running) (s .«if_id») p (x .raw));
-  «id_ex» =
-      emptyIdEx;
+  «if_id» = cleared (fetched (s .running) (s .«if_id») p i);
+  «id_ex» = emptyIdEx;
   «ex_mem» = l;
-  «mem_wb» = memWbOf (s .«ex_mem») (x .answer);
+  «mem_wb» = memWbOf (s .«ex_mem») a;
   «ex_armed» = false;
   «ex_cycles_left» = cond (s .«ex_armed») 0 (s .«ex_cycles_left»);
   cycles = s .cycles + 1;
@@ -127,6 +116,14 @@ advanceBy (redirect q m) l d p s x = record {
   «stall_cycles» = s .«stall_cycles»;
   «flush_events» = s .«flush_events» + 1;
 }
+
+-- the state after a move
+unfoldable pub advanceBy : Move → ExMem → IdEx → ℕ × Mode → PipelineCpu → Taken → PipelineCpu
+advanceBy keepWaiting l d p s x = waiting (s .«ex_cycles_left» - 1) l (x .answer) s
+advanceBy beginWait l d p s x = waiting (waits ((s .«id_ex») .decoded)) l (x .answer) s
+advanceBy (loadUseStall g) l d p s x = stalling g l (x .answer) s
+advanceBy proceed l d p s x = proceeding l d p (x .raw) (x .answer) s
+advanceBy (redirect q m) l d p s x = redirecting q m l p (x .raw) (x .answer) s
 
 unfoldable pub advance : Move → PipelineCpu → Taken → PipelineCpu
 advance m s x = advanceBy m (nextExMem m s) (nextIdEx s) (fetchPlace m s) s x

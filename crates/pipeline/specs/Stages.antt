@@ -14,7 +14,7 @@ use Rattle.latch.specs.Decode.{idExBy, loadUse}
 use Rattle.latch.specs.Latches.{cleared, emptyExMem, emptyIdEx, emptyIfId, emptyMemWb}
 use Rattle.latch.specs.Memory.{memWbOf}
 use Rattle.latch.specs.Retire.{retiredMode, retiredPc}
-use Rattle.pipeline.specs.Advance.{Taken, advanceBy}
+use Rattle.pipeline.specs.Advance.{advanceBy}
 use Rattle.pipeline.specs.Execute.{executed, redirectOf}
 use Rattle.pipeline.specs.Move.{isSlow, move, nextExMem, proceedOr}
 use Rattle.pipeline.specs.Names.{ExMem, Front, IdEx, IfId, Mode, Move, Next, Operands, PipelineCpu, Place}
@@ -225,18 +225,9 @@ shifted l x a = record {
   «flush_events» = l .«flush_events»;
 }
 
--- r: the stages l after a move, whatever the registers are
-unfoldable pub Advances : Stages → Move → ExMem → IdEx → ℕ × Mode → Taken → Stages → Type 0
-Advances l m x d p t r = (rs : List ℕ) → view r rs ≡ advanceBy m x d p (view l rs) t
-
--- the same for a move that neither decodes nor fetches
-unfoldable pub Holds : Stages → Move → ExMem → ℕ → Stages → Type 0
-Holds l m x a r = (d : IdEx) → (p : ℕ × Mode) → (i : RawInstr) → Advances l m x d p (record { answer = a; raw = i })
-    r
-
--- the same for a move that fetches i from a place
-unfoldable pub Fetches : Stages → Move → ExMem → IdEx → Place → RawInstr → ℕ → Stages → Type 0
-Fetches l m x d p i a r = Advances l m x d (p .pc, p .mode) (record { answer = a; raw = i }) r
+-- r: the stages l after a change of the state, whatever the registers are
+unfoldable pub Becomes : Stages → (PipelineCpu → PipelineCpu) → Stages → Type 0
+Becomes l f r = (rs : List ℕ) → view r rs ≡ f (view l rs)
 
 -- the state after the move of a plan
 unfoldable pub advancePlan : Plan → Stages → List ℕ → RawInstr → ℕ → PipelineCpu

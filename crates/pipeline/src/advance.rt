@@ -2,16 +2,17 @@
 ghost use Prim.Native.Nat.{_-_};
 ghost use mathlib.Core.Bool.{cond};
 ghost use mathlib.Core.Path.{_≡_};
-ghost use Rattle.latch.specs.Latches.{cleared, emptyIdEx};
+ghost use Rattle.latch.specs.Latches.{cleared};
+ghost use Rattle.pipeline.specs.Advance.{waiting, stalling, proceeding, redirecting};
 ghost use Rattle.pipeline.specs.Fetch.{fetched};
-ghost use Rattle.pipeline.specs.Names.{keepWaiting, beginWait, loadUseStall, proceed, redirect};
-ghost use Rattle.pipeline.specs.Stages.{Room, view, shifted, Fetches, Holds, advancePlan};
+ghost use Rattle.pipeline.specs.Stages.{Room, view, shifted, Becomes, advancePlan};
 use crate::Move;
 use crate::Place;
 use crate::Plan;
 use crate::Stages;
 use crate::execute::id_ex_from;
 use crate::retire::more;
+use isa::Mode;
 use isa::RawInstr;
 use isa::Redirect;
 use isa::registers::sel;
@@ -70,28 +71,14 @@ impl Stages {
         self
     }
 
-    // A wait in EX goes on.
-    fn keep_waiting(self, ex_mem: ExMem, answer: u32) -> Stages
+    // A wait in EX with `left` ticks left.
+    fn wait(self, left: u32, ex_mem: ExMem, answer: u32) -> Stages
         requires { ⌜ Room self ⌝ }
-        ensures { λ r. ⌜ Holds self keepWaiting «ex_mem» answer r ⌝ }
+        ensures { λ r. ⌜ Becomes self (waiting left «ex_mem» answer) r ⌝ }
     {
         let mut s = self.shift(ex_mem, answer);
         s.ex_armed = true;
-        s.ex_cycles_left = one_less(self.ex_cycles_left);
-        s.stall_cycles = self.stall_cycles + 1;
-        s
-    }
-
-    // A multiply or divide begins its wait.
-    fn begin_wait(self, ex_mem: ExMem, answer: u32) -> Stages
-        requires { ⌜ Room self ⌝ }
-        ensures { λ r. ⌜ Holds self beginWait «ex_mem» answer r ⌝ }
-    {
-        let d = self.id_ex;
-        let decoded = d.decoded;
-        let mut s = self.shift(ex_mem, answer);
-        s.ex_armed = true;
-        s.ex_cycles_left = decoded.operands().waits();
+        s.ex_cycles_left = left;
         s.stall_cycles = self.stall_cycles + 1;
         s
     }
@@ -99,7 +86,7 @@ impl Stages {
     // The front end is held behind a used load; a redirect still takes effect.
     fn load_use_stall(self, way: Redirect, ex_mem: ExMem, answer: u32) -> Stages
         requires { ⌜ Room self ⌝ }
-        ensures { λ r. ⌜ Holds self (loadUseStall way) «ex_mem» answer r ⌝ }
+        ensures { λ r. ⌜ Becomes self (stalling way «ex_mem» answer) r ⌝ }
     {
         let redirects = way.is_to();
         let flush_events = more(redirects, self.flush_events);
@@ -127,7 +114,7 @@ impl Stages {
     // IF/ID is decoded and the place fetched from.
     fn proceed(self, ex_mem: ExMem, id_ex: IdEx, place: Place, raw: RawInstr, answer: u32) -> Stages
         requires { ⌜ Room self ⌝ }
-        ensures { λ r. ⌜ Fetches self proceed «ex_mem» «id_ex» place raw answer r ⌝ }
+        ensures { λ r. ⌜ Becomes self (proceeding «ex_mem» «id_ex» (place .pc, place .mode) raw answer) r ⌝ }
     {
         let mode = place.mode;
         let f = self.if_id;
@@ -148,16 +135,18 @@ impl Stages {
     // What was decoded and what is fetched are both flushed.
     fn redirect(
         self,
-        target: Place,
+        pc: u32,
+        mode: Mode,
         ex_mem: ExMem,
         place: Place,
         raw: RawInstr,
         answer: u32,
     ) -> Stages
         requires { ⌜ Room self ⌝ }
-        ensures { λ r. ⌜ Fetches self (redirect (target .pc) (target .mode)) «ex_mem» emptyIdEx place raw answer r ⌝ }
+        ensures { λ r. ⌜ Becomes self (redirecting pc mode «ex_mem» (place .pc, place .mode) raw answer) r ⌝ }
     {
         let f = self.if_id;
+        let target = Place { pc, mode };
         let new = fetched(self.running, f, place, raw);
         let if_id = new.cleared();
         let id_ex = IdEx::invalid();
@@ -180,22 +169,20 @@ impl Stages {
         let place = plan.place;
         let front = plan.front;
         let if_id = self.if_id;
+        let d = self.id_ex;
         let step = plan.step;
         match step {
-            Move::KeepWaiting => self.keep_waiting(ex_mem, answer),
-            Move::BeginWait => self.begin_wait(ex_mem, answer),
+            Move::KeepWaiting => self.wait(one_less(self.ex_cycles_left), ex_mem, answer),
+            Move::BeginWait => {
+                let decoded = d.decoded;
+                self.wait(decoded.operands().waits(), ex_mem, answer)
+            }
             Move::LoadUseStall(way) => self.load_use_stall(way, ex_mem, answer),
             Move::Proceed => {
                 let id_ex = id_ex_from(if_id, front, reg);
                 self.proceed(ex_mem, id_ex, place, raw, answer)
             }
-            Move::Redirect(pc, mode) => self.redirect(
-                Place { pc, mode },
-                ex_mem,
-                place,
-                raw,
-                answer,
-            ),
+            Move::Redirect(pc, mode) => self.redirect(pc, mode, ex_mem, place, raw, answer),
         }
     }
 }

@@ -1,12 +1,12 @@
 -- `pipeline::Stages::proceed` meets its contract. Assumes nothing.
 use borrow.Author.Needs.{needs}
-use Rattle.pipeline.specs.Advance.{advanceBy}
-use Rattle.pipeline.specs.Stages.{Advances, Fetches, shifted, view}
+use Rattle.pipeline.specs.Advance.{proceeding}
+use Rattle.pipeline.specs.Stages.{Becomes, shifted, view}
 use Rattle.pipeline.proofs.Stages.proceed.Statement.{statement}
 use Rattle.pipeline.proofs.Stages.proceed.Tie as tie
 
 pub proceed-spec : {M : Type 1} → statement M
-unfolding Fetches Advances view advanceBy shifted
+unfolding Becomes view proceeding shifted
 proceed-spec = tie.close (tie.spec
     (λ c κs. search needs) (λ c κs. search needs) (λ c κs. search needs) (λ c κs. search needs)
     (λ c κs. search needs)
