@@ -11,7 +11,7 @@ use Rattle.isa.specs.Redirects.{isTo, modeOr, targetOr}
 use Rattle.isa.specs.Short.{decodedOf}
 use Rattle.isa.specs.Waits.{predictBy}
 use Rattle.latch.specs.Decode.{idExBy, loadUse}
-use Rattle.latch.specs.Latches.{cleared, emptyExMem, emptyIdEx, emptyIfId, emptyMemWb}
+use Rattle.latch.specs.Latches.{cleared, emptyExMem, emptyIdEx}
 use Rattle.latch.specs.Memory.{memWbOf}
 use Rattle.latch.specs.Retire.{retiredMode, retiredPc}
 use Rattle.pipeline.specs.Advance.{advanceBy}
@@ -64,27 +64,6 @@ stagesOf s = record {
   «instructions_executed» = s .«instructions_executed»;
   «stall_cycles» = s .«stall_cycles»;
   «flush_events» = s .«flush_events»;
-}
-
--- the stages of a start
-unfoldable pub started : ℕ → Mode → Bool → ℕ → Stages
-started p m u f = record {
-  «fetch_at» = record { pc = p; mode = m };
-  «retire_at» = record { pc = p; mode = m };
-  running = true;
-  user = u;
-  features = f;
-  «if_id» = emptyIfId;
-  «id_ex» = emptyIdEx;
-  «ex_mem» = emptyExMem;
-  «mem_wb» = emptyMemWb;
-  «ex_cycles_left» = 0;
-  «ex_armed» = false;
-  cycles = 0;
-  «running_cycles» = 0;
-  «instructions_executed» = 0;
-  «stall_cycles» = 0;
-  «flush_events» = 0;
 }
 
 -- the fetch place and the retire place after the retirement of MEM/WB

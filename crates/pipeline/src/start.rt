@@ -1,6 +1,6 @@
 // Start, and the state as stages with lent registers.
 ghost use mathlib.Core.Path.{_≡_};
-ghost use Rattle.pipeline.specs.Stages.{view, started, stagesOf};
+ghost use Rattle.pipeline.specs.Stages.{view, stagesOf};
 ghost use Rattle.pipeline.specs.Start.{fresh};
 use crate::PipelineCpu;
 use crate::Place;
@@ -12,30 +12,6 @@ use latch::IfId;
 use latch::MemWb;
 
 impl Stages {
-    // The stages of a start: empty latches, no wait, running, counters 0.
-    fn start(pc: u32, mode: Mode, user: bool, features: u32) -> Stages
-        ensures { λ r. ⌜ r ≡ started pc mode user features ⌝ }
-    {
-        Stages {
-            fetch_at: Place { pc, mode },
-            retire_at: Place { pc, mode },
-            running: true,
-            user,
-            features,
-            if_id: IfId::invalid(),
-            id_ex: IdEx::invalid(),
-            ex_mem: ExMem::invalid(),
-            mem_wb: MemWb::invalid(),
-            ex_cycles_left: 0,
-            ex_armed: false,
-            cycles: 0,
-            running_cycles: 0,
-            instructions_executed: 0,
-            stall_cycles: 0,
-            flush_events: 0,
-        }
-    }
-
     // The state with these registers.
     pub(crate) fn with(self, reg: [u32; 32]) -> PipelineCpu
         ensures { λ r. ⌜ r ≡ view self reg ⌝ }
@@ -73,14 +49,33 @@ impl Stages {
 }
 
 impl PipelineCpu {
-    // The state that a program starts in; R0 becomes 0.
+    // The state that a program starts in: R0 becomes 0, latches are empty, no wait, running, counters 0.
     pub fn start(reg: [u32; 32], pc: u32, mode: Mode, user: bool, features: u32) -> PipelineCpu
         ensures { λ r. ⌜ r ≡ fresh reg pc mode user features ⌝ }
     {
         let mut regs = reg;
         regs[0] = 0;
-        let s = Stages::start(pc, mode, user, features);
-        s.with(regs)
+        PipelineCpu {
+            reg: regs,
+            fetch_pc: pc,
+            fetch_mode: mode,
+            retire_pc: pc,
+            retire_mode: mode,
+            running: true,
+            user,
+            features,
+            if_id: IfId::invalid(),
+            id_ex: IdEx::invalid(),
+            ex_mem: ExMem::invalid(),
+            mem_wb: MemWb::invalid(),
+            ex_cycles_left: 0,
+            ex_armed: false,
+            cycles: 0,
+            running_cycles: 0,
+            instructions_executed: 0,
+            stall_cycles: 0,
+            flush_events: 0,
+        }
     }
 
     // The state but for its registers.
