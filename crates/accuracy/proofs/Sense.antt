@@ -19,7 +19,8 @@ use Rattle.pipeline.specs.Ask.{brimming, broken, fetchAt, stuck, wantFetch, wan
 use Rattle.pipeline.specs.Move.{move, nextExMem}
 use Rattle.accuracy.specs.Names.{Given, Instr, Mode, Move, NoAnswer, Normal, Nothing, PipelineCpu, RawInstr}
 use Rattle.accuracy.specs.Names.{Short, Word, beginWait, keepWaiting, loadUseStall, proceed, redirect}
-use Rattle.accuracy.specs.Premise.{fits, replies, reply}
+use Rattle.accuracy.specs.Premise.{fits, replies}
+use Rattle.pipeline.specs.Turn.{reply}
 use Rattle.pipeline.specs.Retire.{retire}
 use Rattle.pipeline.specs.Tick.{Result, badOffer, fitsOffer, givenTests, isAnswer, mfsrOffer, moved, refused}
 use Rattle.pipeline.specs.Tick.{same, taken, tests, tick, verdict}

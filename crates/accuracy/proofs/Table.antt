@@ -27,7 +27,8 @@ use Rattle.pipeline.specs.Execute.{effectFor, executed, executedBy, operandB, r
 use Rattle.pipeline.specs.Fetch.{fetchPlace, fetched, fetches, nextIdEx, predicted}
 use Rattle.pipeline.specs.Forwarding.{forwarded}
 use Rattle.pipeline.specs.Move.{choose, chooseDone, chooseFree, hazard, isSlow, move, nextExMem, proceedOr}
-use Rattle.accuracy.specs.Premise.{replies, reply}
+use Rattle.accuracy.specs.Premise.{replies}
+use Rattle.pipeline.specs.Turn.{reply}
 use Rattle.pipeline.specs.Retire.{retire}
 use Rattle.pipeline.specs.Start.{fresh}
 use Rattle.accuracy.specs.Table.{Rows, behindRow, branchRow, divideRow, dueIn, figures, figuresOf, haltRow}

@@ -21,9 +21,10 @@ use Rattle.pipeline.specs.Advance.{next}
 use Rattle.pipeline.specs.Ask.{brimming, broken, stuck}
 use Rattle.pipeline.specs.Forwarding.{forwarded}
 use Rattle.accuracy.specs.Names.{Given, Mode, PipelineCpu, RawInstr, Refused}
-use Rattle.accuracy.specs.Premise.{Agree, fits, replies, reply, told, untold, wholeProgram}
+use Rattle.accuracy.specs.Premise.{Agree, fits, replies, told, untold, wholeProgram}
 use Rattle.pipeline.specs.Start.{fresh}
 use Rattle.accuracy.specs.Table.{Rows}
+use Rattle.pipeline.specs.Turn.{reply}
 use Rattle.pipeline.specs.Tick.{moved, taken, tick, ticked}
 
 -- Forwarding: for each register its value after MEM/WB's and then EX/MEM's writes, R0 reading as 0, where EX/MEM is

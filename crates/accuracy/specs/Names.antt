@@ -31,7 +31,6 @@ pub use Rattle.isa.specs.declared.Mtsr.{Mtsr as MtsrWrite}
 pub use Rattle.isa.specs.declared.Mtsr.the-variants.{None as NoMtsr, Write}
 pub use Rattle.isa.specs.declared.Operands.{Operands}
 pub use Rattle.isa.specs.declared.Effect.{Effect}
-pub use Rattle.isa.specs.declared.Fields.{Fields}
 pub use Rattle.latch.specs.declared.IfId.{IfId}
 pub use Rattle.latch.specs.declared.IdEx.{IdEx}
 pub use Rattle.latch.specs.declared.ExMem.{ExMem}

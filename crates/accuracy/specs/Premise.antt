@@ -10,6 +10,7 @@ use Rattle.accuracy.specs.Accuracy.{Run, begin, one}
 use Rattle.pipeline.specs.Ask.{fetchAt, wantFetch, wantLoad}
 use Rattle.accuracy.specs.Names.{DecNormal, Decoded, Given, Instr, Mode, NoAnswer, Nop, Normal, Nothing}
 use Rattle.accuracy.specs.Names.{Offer, PipelineCpu, RawInstr, RawNormal, RawShort, Short, Word}
+use Rattle.pipeline.specs.Turn.{reply}
 use Rattle.pipeline.specs.Tick.{Result, moved, refused, tick}
 
 -- every later accepted fetch from address p in mode m decodes to d
@@ -49,14 +50,6 @@ unfoldable pub told : Run → List Given → ℕ → Mode → Decoded
 told r [] p m = DecNormal Nop
 told r (t ∷ ts) p m = toldBy (tick (r .state) t) (t .offer) (placeIs (fetchAt (r .state)) p m)
     (told (one r t) ts p m)
-
--- a tick made by asking, answered from a fixed program
-unfoldable pub reply : (ℕ → Mode → RawInstr) → ℕ → PipelineCpu → Given
-reply raw v s = record {
-  offer = cond (wantFetch s) (Instr (raw ((fetchAt s) .0) ((fetchAt s) .1))) Nothing;
-  answer
-      = cond (wantLoad s) (Word v) NoAnswer;
-}
 
 -- a list of such ticks, with an answer at hand for each
 unfoldable pub replies : (ℕ → Mode → RawInstr) → List ℕ → Run → List Given

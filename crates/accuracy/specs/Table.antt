@@ -14,7 +14,8 @@ use Rattle.accuracy.specs.Count.{path, retireTick}
 use Rattle.accuracy.specs.Names.{Add, Addi, Beq, Bne, Div, Given, Halt, Instruction, Jmp, Jmps, Ld, Mode, Mul}
 use Rattle.accuracy.specs.Names.{NoAnswer, Normal, Nothing, PipelineCpu, RawInstr, RawNormal, RawShort, Short}
 use Rattle.accuracy.specs.Names.{Unknown}
-use Rattle.accuracy.specs.Premise.{replies, reply}
+use Rattle.accuracy.specs.Premise.{replies}
+use Rattle.pipeline.specs.Turn.{reply}
 use Rattle.pipeline.specs.Start.{fresh}
 use Rattle.pipeline.specs.Tick.{ticked}
 

@@ -3,7 +3,10 @@ use crate::answer::Reply;
 use crate::answer::answer;
 use crate::answer::code_of;
 use crate::answer::length_of;
+use crate::held::put_answers;
+use crate::held::put_sheet;
 use crate::input::Input;
+use crate::play::run;
 use crate::read_state::given;
 use crate::read_state::started;
 use crate::write_state::set_asked;
@@ -43,7 +46,19 @@ fn show(held: PipelineCpu, n: &mut [u32; 192]) -> Turn {
     }
 }
 
-fn known(held: PipelineCpu, n: &mut [u32; 192]) -> Turn {
+fn silent(held: PipelineCpu) -> Turn {
+    Turn {
+        held,
+        reply: Reply::Silent,
+    }
+}
+
+fn known(
+    held: PipelineCpu,
+    n: &mut [u32; 192],
+    sheet: &mut [u8; 20736],
+    answers: &mut [u32; 4096],
+) -> Turn {
     match n[0] {
         0xF => Turn {
             held: started(n),
@@ -51,6 +66,18 @@ fn known(held: PipelineCpu, n: &mut [u32; 192]) -> Turn {
         },
         0x10 => tick(held, n),
         0x11 => show(held, n),
+        0x12 => {
+            put_sheet(sheet, n);
+            silent(held)
+        }
+        0x13 => {
+            put_answers(answers, n);
+            silent(held)
+        }
+        0x14 => Turn {
+            held,
+            reply: run(n, sheet, answers),
+        },
         _ => Turn {
             held,
             reply: answer(n),
@@ -59,9 +86,15 @@ fn known(held: PipelineCpu, n: &mut [u32; 192]) -> Turn {
 }
 
 // Answers the line that was read last. One that is no case gets an empty line.
-pub fn answered(held: PipelineCpu, i: Input, n: &mut [u32; 192]) -> Turn {
+pub fn answered(
+    held: PipelineCpu,
+    i: Input,
+    n: &mut [u32; 192],
+    sheet: &mut [u8; 20736],
+    answers: &mut [u32; 4096],
+) -> Turn {
     if i.whole & !i.malformed & (i.count == length_of(n[0])) {
-        return known(held, n);
+        return known(held, n, sheet, answers);
     }
     if i.whole | i.begun() {
         return Turn {
@@ -69,8 +102,5 @@ pub fn answered(held: PipelineCpu, i: Input, n: &mut [u32; 192]) -> Turn {
             reply: Reply::Numbers(0, 0),
         };
     }
-    Turn {
-        held,
-        reply: Reply::Silent,
-    }
+    silent(held)
 }

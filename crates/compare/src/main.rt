@@ -1,14 +1,17 @@
 // Reads case lines from standard input and writes what the proved functions answer, a line for each.
 mod answer;
+mod asked;
 mod build;
 mod coded;
 mod codes;
+mod held;
 mod input;
 mod list;
 mod listed;
 mod number;
 mod output;
 mod place;
+mod play;
 mod read_instruction;
 mod read_latch;
 mod read_state;
@@ -39,13 +42,15 @@ fn put(r: Reply, n: &[u32; 192], out: &mut [u8], to: usize) -> usize {
 // Answers to the end of the input. Nothing says that it ends, so the turns are counted down.
 fn answer_all(buf: &mut [u8], out: &mut [u8]) {
     let mut numbers = [0u32; 192];
+    let mut sheet = [0u8; 20736];
+    let mut answers = [0u32; 4096];
     let mut held = nowhere();
     let mut i = Input::new();
     let mut to: usize = 0;
     let mut turns = u64::MAX;
     while turns > 0 && i.open {
         i = i.next_line(buf, &mut numbers);
-        let a = answered(held, i, &mut numbers);
+        let a = answered(held, i, &mut numbers, &mut sheet, &mut answers);
         let reply = a.reply;
         held = a.held;
         to = put(reply, &numbers, out, to);

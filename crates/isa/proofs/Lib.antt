@@ -1,4 +1,4 @@
 pub mod Bools
 pub mod LowBits
 pub mod Machine
-pub mod Tables
+pub mod Widen

@@ -6,4 +6,3 @@ pub mod Redirects
 pub mod Registers
 pub mod Waits
 pub mod Machine
-pub mod Fields

@@ -1,96 +1,26 @@
-// What an instruction does with two operand values, by its command.
+// What an instruction does with two operand values: the table of specs/Effect.antt, row by row.
+ghost use mathlib.Core.Bool.{cond, false};
 ghost use mathlib.Core.Path.{_≡_};
-ghost use Rattle.isa.specs.Effect.{effectOf, size, fall};
-ghost use Rattle.isa.specs.Fields.{resultBy, isJump, takenBy, targetBy, toShort, modeIf, redirectIf, newModeBy};
-ghost use Rattle.isa.specs.Fields.{isPrivileged, exceptionBy, mtsrIf, sizeBy, addressBy, nextBy, effectBy};
+ghost use Rattle.isa.specs.Effect.{calm, gives, reaches, branches, jumps, links, raises, sets, privileged};
+ghost use Rattle.isa.specs.Effect.{effectN, effectS, effectOf, size, fall};
+ghost use Rattle.isa.specs.Names.{Keep, Next, To};
+ghost use Rattle.word.specs.Words.{offset32};
 use crate::Decoded;
 use crate::Effect;
 use crate::Exception;
-use crate::Fields;
 use crate::Instruction;
 use crate::Mode;
 use crate::Mtsr;
 use crate::NewMode;
 use crate::Redirect;
 use crate::ShortInstruction;
-use crate::naming::gives_word;
-use crate::naming::is_link;
-use crate::naming::is_load;
-use crate::naming::is_store;
-use crate::naming::sel8;
-use crate::naming::within;
-use crate::registers::sel;
+use crate::encoding::byte;
+use crate::encoding::half;
+use crate::encoding::widen;
 
-fn wide(c: u8) -> u32
-    ensures { λ r. ⌜ r ≡ c ⌝ }
-{
-    c as u32
-}
-
-// The result; `n` is the address after the instruction.
-fn result_by(c: u8, a: u32, b: u32, imm: u32, n: u32) -> u32
-    ensures { λ r. ⌜ r ≡ resultBy c a b imm n ⌝ }
-{
-    if within(c, 0x10, 0x1F) {
-        return word::arithmetic(wide(c), a, b);
-    }
-    match c {
-        0x20 => word::add(a, imm),
-        0x30 => word::ldil(a, imm),
-        0x31 => word::ldih(a, imm),
-        0x42 => n,
-        0x43 => n,
-        0x51 => n,
-        0x53 => n,
-        0x80 => a,
-        0x81 => word::add(a, b),
-        0x82 => word::add(a, imm),
-        0x88 => n,
-        0x89 => imm,
-        _ => 0,
-    }
-}
-
-fn is_jump(c: u8) -> bool
-    ensures { λ r. ⌜ r ≡ isJump c ⌝ }
-{
-    (within(c, 0x40, 0x43) | within(c, 0x50, 0x53)) | (within(c, 0x87, 0x88) | (c == 0x8F))
-}
-
-// A jump, or a conditional branch whose condition holds.
-fn taken_by(c: u8, a: u32, b: u32) -> bool
-    ensures { λ r. ⌜ r ≡ takenBy c a b ⌝ }
-{
-    let equal = a == b;
-    let zero = a == 0;
-    let forward = is_jump(c) | ((c == 0x27) & equal);
-    forward | (((c == 0x28) & !equal) | (((c == 0x85) & zero) | ((c == 0x86) & !zero)))
-}
-
-fn target_by(c: u8, a: u32, imm: u32, n: u32) -> u32
-    ensures { λ r. ⌜ r ≡ targetBy c a imm n ⌝ }
-{
-    let offset = sel(c == 0x8F, n, word::add(n, imm));
-    sel(within(c, 0x40, 0x43) | (c == 0x87), a, offset)
-}
-
-fn to_short(c: u8) -> bool
-    ensures { λ r. ⌜ r ≡ toShort c ⌝ }
-{
-    ((c == 0x41) | (c == 0x43)) | within(c, 0x52, 0x53)
-}
-
-fn mode_if(short: bool) -> Mode
-    ensures { λ r. ⌜ r ≡ modeIf short ⌝ }
-{
-    if short {
-        return Mode::Short;
-    }
-    Mode::Normal
-}
-
+// A way to `target` in `mode` where it is taken, else on.
 pub(crate) fn redirect_if(taken: bool, target: u32, mode: Mode) -> Redirect
-    ensures { λ r. ⌜ r ≡ redirectIf taken target mode ⌝ }
+    ensures { λ r. ⌜ r ≡ cond taken (To target mode) Next ⌝ }
 {
     if taken {
         return Redirect::To(target, mode);
@@ -98,94 +28,249 @@ pub(crate) fn redirect_if(taken: bool, target: u32, mode: Mode) -> Redirect
     Redirect::Next
 }
 
-fn new_mode_by(c: u8) -> NewMode
-    ensures { λ r. ⌜ r ≡ newModeBy c ⌝ }
+// No request, no exception and no special register written.
+fn calm(v: u32, w: bool, a: bool, g: Redirect, n: NewMode, h: bool, i: bool, c: bool) -> Effect
+    ensures { λ r. ⌜ r ≡ calm v w a g n h i c ⌝ }
 {
-    if to_short(c) {
-        return NewMode::To(Mode::Short);
+    Effect {
+        alu_result: v,
+        mem_addr: 0,
+        store_value: 0,
+        mem_size: 0,
+        is_mem_read: false,
+        writes: w,
+        always_writes: a,
+        redirect: g,
+        branch_new_mode: n,
+        halt: h,
+        iret: i,
+        cpuid: c,
+        exception: Exception::None,
+        mtsr: Mtsr::None,
     }
-    if c == 0x8F {
-        return NewMode::To(Mode::Normal);
-    }
-    NewMode::Keep
 }
 
-// HALT, IRET, MTSR and MFSR.
-fn is_privileged(c: u8) -> bool
-    ensures { λ r. ⌜ r ≡ isPrivileged c ⌝ }
+// The destination gets `v`.
+fn gives(v: u32) -> Effect
+    ensures { λ r. ⌜ r ≡ gives v ⌝ }
 {
-    within(c, 0x02, 0x03) | within(c, 0x32, 0x33)
-}
-
-fn exception_by(user: bool, c: u8, number: u16) -> Exception
-    ensures { λ r. ⌜ r ≡ exceptionBy user c number ⌝ }
-{
-    if c == 0x54 {
-        return Exception::Syscall(number);
-    }
-    if is_privileged(c) & user {
-        return Exception::PrivilegedInstruction;
-    }
-    if ((c == 0x33) | (c == 0x60)) | (c == 0x8A) {
-        return Exception::IllegalInstruction;
-    }
-    Exception::None
-}
-
-fn mtsr_if(on: bool, sr: u16, value: u32) -> Mtsr
-    ensures { λ r. ⌜ r ≡ mtsrIf on sr value ⌝ }
-{
-    if on {
-        return Mtsr::Write(sr, value);
-    }
-    Mtsr::None
-}
-
-fn size_by(c: u8) -> u8
-    ensures { λ r. ⌜ r ≡ sizeBy c ⌝ }
-{
-    let byte = sel8((c == 0x23) | (c == 0x26), 1, 4);
-    let width = sel8((c == 0x22) | (c == 0x25), 2, byte);
-    sel8(is_load(c) | is_store(c), width, 0)
-}
-
-fn address_by(c: u8, a: u32, imm: u32) -> u32
-    ensures { λ r. ⌜ r ≡ addressBy c a imm ⌝ }
-{
-    let short = sel(within(c, 0x83, 0x84), a, 0);
-    sel(within(c, 0x21, 0x26), word::add(a, imm), short)
-}
-
-fn next_by(c: u8, pc: u32) -> u32
-    ensures { λ r. ⌜ r ≡ nextBy c pc ⌝ }
-{
-    word::add(
-        pc,
-        sel(0x80 <= c, ShortInstruction::SIZE, Instruction::SIZE),
+    calm(
+        v,
+        true,
+        false,
+        Redirect::Next,
+        NewMode::Keep,
+        false,
+        false,
+        false,
     )
 }
 
-fn effect_by(user: bool, f: Fields, pc: u32, a: u32, b: u32) -> Effect
-    ensures { λ r. ⌜ r ≡ effectBy user f pc a b ⌝ }
+// A load (`l`) of width `w` at address `a`, or a store of `v` there.
+fn reaches(l: bool, w: u8, a: u32, v: u32) -> Effect
+    ensures { λ r. ⌜ r ≡ reaches l w a v ⌝ }
 {
-    let c = f.command;
-    let n = next_by(c, pc);
-    let short = to_short(c) | within(c, 0x85, 0x88);
     Effect {
-        alu_result: result_by(c, a, b, f.imm, n),
-        mem_addr: address_by(c, a, f.imm),
-        store_value: sel(is_store(c), b, 0),
-        mem_size: size_by(c),
-        is_mem_read: is_load(c),
-        writes: gives_word(c),
-        always_writes: is_load(c) | is_link(c),
-        redirect: redirect_if(taken_by(c, a, b), target_by(c, a, f.imm, n), mode_if(short)),
-        branch_new_mode: new_mode_by(c),
-        halt: (c == 0x02) & !user,
-        iret: (c == 0x03) & !user,
-        cpuid: c == 0x01,
-        exception: exception_by(user, c, f.number),
-        mtsr: mtsr_if((c == 0x32) & !user, f.number, a),
+        alu_result: 0,
+        mem_addr: a,
+        store_value: v,
+        mem_size: w,
+        is_mem_read: l,
+        writes: l,
+        always_writes: l,
+        redirect: Redirect::Next,
+        branch_new_mode: NewMode::Keep,
+        halt: false,
+        iret: false,
+        cpuid: false,
+        exception: Exception::None,
+        mtsr: Mtsr::None,
+    }
+}
+
+// Nothing but HALT (`h`), IRET (`i`) or CPUID (`c`).
+fn marks(h: bool, i: bool, c: bool) -> Effect
+    ensures { λ r. ⌜ r ≡ calm 0 false false Next Keep h i c ⌝ }
+{
+    calm(0, false, false, Redirect::Next, NewMode::Keep, h, i, c)
+}
+
+// A conditional branch by offset `o` from `n`, where `c` holds.
+fn branches(c: bool, n: u32, o: i16, m: Mode) -> Effect
+    ensures { λ r. ⌜ r ≡ branches c (offset32 n o) m ⌝ }
+{
+    let way = redirect_if(c, word::add_signed(n, o), m);
+    calm(0, false, false, way, NewMode::Keep, false, false, false)
+}
+
+// A jump to `q` in mode `m`; `n`: the mode that it changes to.
+fn jumps(q: u32, m: Mode, n: NewMode) -> Effect
+    ensures { λ r. ⌜ r ≡ jumps q m n ⌝ }
+{
+    calm(0, false, false, Redirect::To(q, m), n, false, false, false)
+}
+
+// A jump that leaves the address `v` of the next instruction.
+fn links(v: u32, q: u32, m: Mode, n: NewMode) -> Effect
+    ensures { λ r. ⌜ r ≡ links v q m n ⌝ }
+{
+    calm(v, true, true, Redirect::To(q, m), n, false, false, false)
+}
+
+// An exception.
+fn raises(e: Exception) -> Effect
+    ensures { λ r. ⌜ r ≡ raises e ⌝ }
+{
+    Effect {
+        alu_result: 0,
+        mem_addr: 0,
+        store_value: 0,
+        mem_size: 0,
+        is_mem_read: false,
+        writes: false,
+        always_writes: false,
+        redirect: Redirect::Next,
+        branch_new_mode: NewMode::Keep,
+        halt: false,
+        iret: false,
+        cpuid: false,
+        exception: e,
+        mtsr: Mtsr::None,
+    }
+}
+
+// MTSR: word `v` for special register `sr`.
+fn sets(sr: u16, v: u32) -> Effect
+    ensures { λ r. ⌜ r ≡ sets sr v ⌝ }
+{
+    Effect {
+        alu_result: 0,
+        mem_addr: 0,
+        store_value: 0,
+        mem_size: 0,
+        is_mem_read: false,
+        writes: false,
+        always_writes: false,
+        redirect: Redirect::Next,
+        branch_new_mode: NewMode::Keep,
+        halt: false,
+        iret: false,
+        cpuid: false,
+        exception: Exception::None,
+        mtsr: Mtsr::Write(sr, v),
+    }
+}
+
+// In user mode a privileged instruction raises an exception.
+fn privileged(user: bool, e: Effect) -> Effect
+    ensures { λ r. ⌜ r ≡ privileged user e ⌝ }
+{
+    if user {
+        return raises(Exception::PrivilegedInstruction);
+    }
+    e
+}
+
+impl Instruction {
+    // `n` is the address after the instruction.
+    fn effect(self, user: bool, n: u32, a: u32, b: u32) -> Effect
+        ensures { λ r. ⌜ r ≡ effectN user self n a b ⌝ }
+    {
+        match self {
+            Instruction::Nop => marks(false, false, false),
+            Instruction::Ld { offset, .. } => reaches(true, 4, word::add_signed(a, offset), 0),
+            Instruction::St { offset, .. } => reaches(false, 4, word::add_signed(a, offset), b),
+            Instruction::Add { .. } => gives(word::add(a, b)),
+            Instruction::Addi { imm, .. } => gives(word::add_signed(a, imm)),
+            Instruction::Sub { .. } => gives(word::sub(a, b)),
+            Instruction::Slt { .. } => gives(word::slt(a, b)),
+            Instruction::Beq { offset, .. } => branches(a == b, n, offset, Mode::Normal),
+            Instruction::Bne { offset, .. } => branches(!(a == b), n, offset, Mode::Normal),
+            Instruction::Jmp { offset } => jumps(
+                word::add_signed(n, offset),
+                Mode::Normal,
+                NewMode::Keep,
+            ),
+            Instruction::Jal { offset } => links(
+                n,
+                word::add_signed(n, offset),
+                Mode::Normal,
+                NewMode::Keep,
+            ),
+            Instruction::Jr { .. } => jumps(a, Mode::Normal, NewMode::Keep),
+            Instruction::Jmps { offset } => jumps(
+                word::add_signed(n, offset),
+                Mode::Short,
+                NewMode::To(Mode::Short),
+            ),
+            Instruction::Jals { offset } => links(
+                n,
+                word::add_signed(n, offset),
+                Mode::Short,
+                NewMode::To(Mode::Short),
+            ),
+            Instruction::Jrs { .. } => jumps(a, Mode::Short, NewMode::To(Mode::Short)),
+            Instruction::Jalr { .. } => links(n, a, Mode::Normal, NewMode::Keep),
+            Instruction::Jalrs { .. } => links(n, a, Mode::Short, NewMode::To(Mode::Short)),
+            Instruction::Cpuid => marks(false, false, true),
+            Instruction::Halt => privileged(user, marks(true, false, false)),
+            Instruction::And { .. } => gives(word::and(a, b)),
+            Instruction::Or { .. } => gives(word::or(a, b)),
+            Instruction::Xor { .. } => gives(word::xor(a, b)),
+            Instruction::Sll { .. } => gives(word::sll(a, b)),
+            Instruction::Srl { .. } => gives(word::srl(a, b)),
+            Instruction::Sla { .. } => gives(word::sll(a, b)),
+            Instruction::Sra { .. } => gives(word::sra(a, b)),
+            Instruction::Sltu { .. } => gives(word::sltu(a, b)),
+            Instruction::Mul { .. } => gives(word::mul(a, b)),
+            Instruction::Div { .. } => gives(word::div(a, b)),
+            Instruction::Mod { .. } => gives(word::rem(a, b)),
+            Instruction::Mulh { .. } => gives(word::mulh(a, b)),
+            Instruction::Divu { .. } => gives(word::divu(a, b)),
+            Instruction::Ldb { offset, .. } => reaches(true, 1, word::add_signed(a, offset), 0),
+            Instruction::Ldh { offset, .. } => reaches(true, 2, word::add_signed(a, offset), 0),
+            Instruction::Stb { offset, .. } => reaches(false, 1, word::add_signed(a, offset), b),
+            Instruction::Sth { offset, .. } => reaches(false, 2, word::add_signed(a, offset), b),
+            Instruction::Ldil { imm, .. } => gives(word::ldil(a, half(imm))),
+            Instruction::Ldih { imm, .. } => gives(word::ldih(a, half(imm))),
+            Instruction::Unknown(_, _) => raises(Exception::IllegalInstruction),
+            Instruction::Iret => privileged(user, marks(false, true, false)),
+            Instruction::Syscall { imm } => raises(Exception::Syscall(imm)),
+            Instruction::Mfsr { .. } => privileged(user, raises(Exception::IllegalInstruction)),
+            Instruction::Mtsr { sr, .. } => privileged(user, sets(sr, a)),
+        }
+    }
+}
+
+impl ShortInstruction {
+    // `n` is the address after the instruction.
+    fn effect(self, n: u32, a: u32, b: u32) -> Effect
+        ensures { λ r. ⌜ r ≡ effectS self n a b ⌝ }
+    {
+        match self {
+            ShortInstruction::Mov { .. } => gives(a),
+            ShortInstruction::Add { .. } => gives(word::add(a, b)),
+            ShortInstruction::Addi { imm, .. } => gives(word::add_signed(a, widen(imm))),
+            ShortInstruction::Ld { .. } => reaches(true, 4, a, 0),
+            ShortInstruction::St { .. } => reaches(false, 4, a, b),
+            ShortInstruction::Bz { offset, .. } => branches(a == 0, n, widen(offset), Mode::Short),
+            ShortInstruction::Bnz { offset, .. } => branches(
+                !(a == 0),
+                n,
+                widen(offset),
+                Mode::Short,
+            ),
+            ShortInstruction::Jr { .. } => jumps(a, Mode::Short, NewMode::Keep),
+            ShortInstruction::Jal { offset } => links(
+                n,
+                word::add_signed(n, offset),
+                Mode::Short,
+                NewMode::Keep,
+            ),
+            ShortInstruction::Ldi { imm, .. } => gives(byte(imm)),
+            ShortInstruction::Ret => jumps(n, Mode::Normal, NewMode::To(Mode::Normal)),
+            ShortInstruction::Unknown(_) => raises(Exception::IllegalInstruction),
+        }
     }
 }
 
@@ -194,7 +279,10 @@ impl Decoded {
     pub fn effect(self, user: bool, pc: u32, a: u32, b: u32) -> Effect
         ensures { λ r. ⌜ r ≡ effectOf user self pc a b ⌝ }
     {
-        effect_by(user, self.fields(), pc, a, b)
+        match self {
+            Decoded::Normal(i) => i.effect(user, Mode::Normal.fall(pc), a, b),
+            Decoded::Short(i) => i.effect(Mode::Short.fall(pc), a, b),
+        }
     }
 }
 

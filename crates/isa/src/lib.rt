@@ -11,13 +11,10 @@
 // - Exception::is_some: false for SYSCALL's; true for none.
 // - Mtsr::is_some: false for special register 0; false for the word 0.
 // - short_reg_to_gpr: R15 for 15 (register_15_is_r15); R31 for 14.
-// - Instruction::fields: base and value of a store exchanged; an offset that is not sign-extended.
-// - ShortInstruction::fields: address and value of ST exchanged (short_st_operands_swapped); LDI's byte sign-extended.
-// - Decoded::fields: ADD's command for the short ADD; the registers of a short instruction as they stand in it.
 // - sel: the two words exchanged; the first word always.
 // - read_reg: the word that stands in reg[0] for R0; 0 for R31.
 // - Operands::predict: every conditional branch taken; the offset added to the branch's own address.
-// - Operands::waits: the latency itself; 2 for a divide too.
+// - Decoded::waits: 16 for a divide (div_waits_16); a wait for DIV and none for MOD.
 // - ShortInstruction::decode_short: LDI at nibble 10 (nibble_10_decoded); JAL's offset unsigned (jal_offset_unsigned).
 // - RawInstr::decoded: halfword F001 as Unknown; NOP for every Normal instruction.
 // - Decoded::operands: LDIL with no source (ldil_source_forgotten); a latency of 4 for MUL (mul_latency_4).
@@ -198,14 +195,4 @@ pub struct Effect {
     pub cpuid: bool,
     pub exception: Exception,
     pub mtsr: Mtsr,
-}
-
-// The numbers by which the code works.
-pub struct Fields {
-    pub command: u8,
-    pub rd: u8,
-    pub ra: u8,
-    pub rb: u8,
-    pub number: u16,
-    pub imm: u32,
 }

@@ -2,8 +2,10 @@
 ghost use mathlib.Core.Bool.{cond};
 ghost use mathlib.Core.Path.{_≡_};
 ghost use Rattle.isa.specs.Registers.{readReg};
-ghost use Rattle.isa.specs.Waits.{waitsBy, isNegative, predictBy};
+ghost use Rattle.isa.specs.Names.{DecNormal};
+ghost use Rattle.isa.specs.Waits.{waits, isNegative, predictBy};
 use crate::Decoded;
+use crate::Instruction;
 use crate::Mode;
 use crate::Operands;
 use crate::Redirect;
@@ -39,6 +41,34 @@ fn is_negative(w: u32) -> bool
     !(w < 0x8000_0000)
 }
 
+impl Instruction {
+    // The ticks that it waits in EX: one less than its latency.
+    fn waits(self) -> u32
+        ensures { λ a. ⌜ a ≡ waits (DecNormal self) ⌝ }
+    {
+        match self {
+            Instruction::Mul { .. } => 2,
+            Instruction::Mulh { .. } => 2,
+            Instruction::Div { .. } => 15,
+            Instruction::Divu { .. } => 15,
+            Instruction::Mod { .. } => 15,
+            _ => 0,
+        }
+    }
+}
+
+impl Decoded {
+    // The ticks that it waits in EX; no Short instruction does.
+    pub fn waits(self) -> u32
+        ensures { λ a. ⌜ a ≡ waits self ⌝ }
+    {
+        match self {
+            Decoded::Normal(i) => i.waits(),
+            Decoded::Short(_) => 0,
+        }
+    }
+}
+
 impl Operands {
     // The prediction for an instruction with these operands.
     pub fn predict(self, pc: u32, mode: Mode) -> Redirect
@@ -47,20 +77,4 @@ impl Operands {
         let taken = self.is_branch & is_negative(self.offset);
         redirect_if(taken, word::add(mode.fall(pc), self.offset), mode)
     }
-
-    // The ticks that it waits in EX.
-    pub fn waits(self) -> u32
-        ensures { λ a. ⌜ a ≡ waitsBy self ⌝ }
-    {
-        if self.latency == 0 {
-            return 0;
-        }
-        wide(self.latency - 1)
-    }
-}
-
-fn wide(x: u8) -> u32
-    ensures { λ a. ⌜ a ≡ x ⌝ }
-{
-    x as u32
 }

@@ -23,6 +23,25 @@ writesAfter l s b = cond l true (cond s false b)
 unfoldable pub valueAfter : Bool → Bool → ℕ → ℕ → ℕ
 valueAfter l s answer result = cond l answer (cond s 0 result)
 
+-- MEM/WB with this destination, write and value, the rest passed on
+unfoldable pub passedOn : ExMem → Dest → Bool → ℕ → MemWb
+passedOn l d b v = record {
+  valid = true;
+  pc = l .pc;
+  mode = l .mode;
+  dest = d;
+  writeback = b;
+  value = v;
+  halt = l .halt;
+  iret = l .iret;
+  cpuid = l .cpuid;
+  «branch_taken» = l .«branch_taken»;
+  «branch_target» = l .«branch_target»;
+  «branch_new_mode» = l .«branch_new_mode»;
+  exception = l .exception;
+  mtsr = l .mtsr;
+}
+
 -- a load takes the answer v whole and is written back; a store writes nothing back
 unfoldable pub memWbOf : ExMem → ℕ → MemWb
 memWbOf l v =

@@ -1,9 +1,11 @@
 // Execute: the effect of ID/EX, the latch that it makes, and the redirect.
+ghost use lib.Dec.{ltb};
 ghost use mathlib.Core.Bool.{cond, false};
 ghost use mathlib.Core.Path.{_≡_};
 ghost use Rattle.isa.specs.Effect.{raises};
 ghost use Rattle.isa.specs.Machine.{destWhere};
 ghost use Rattle.latch.specs.Execute.{effectIn, exMemOf, mispredict, effectFrom};
+ghost use Rattle.latch.specs.Forwarding.{forwardFrom};
 use crate::ExMem;
 use crate::IdEx;
 use crate::MemWb;
@@ -15,7 +17,6 @@ use isa::Mode;
 use isa::Mtsr;
 use isa::NewMode;
 use isa::Redirect;
-use isa::registers::sel;
 
 fn raised(e: Exception) -> Effect
     ensures { λ r. ⌜ r ≡ raises e ⌝ }
@@ -121,6 +122,16 @@ impl IdEx {
     }
 }
 
+// Operand B: forwarded where two sources are named, else as it was sampled.
+fn operand_b(x: ExMem, w: MemWb, features: u32, reg: &[u32; 32], d: IdEx) -> u32
+    ensures { λ r. ⌜ r ≡ cond (ltb 1 (d .«n_srcs»)) (forwardFrom x w features (now (reg .entry)) (d .«src_b»)) (d .«op_b») ⌝ }
+{
+    if 1 < d.n_srcs {
+        return forwarded(x, w, features, reg, d.src_b);
+    }
+    d.op_b
+}
+
 // The effect of ID/EX with its operands forwarded out of the latches.
 pub fn effect_from(
     user: bool,
@@ -133,6 +144,6 @@ pub fn effect_from(
     ensures { λ r. ⌜ r ≡ effectFrom user x w features (now (reg .entry)) d ⌝ }
 {
     let a = forwarded(x, w, features, reg, d.src_a);
-    let b = forwarded(x, w, features, reg, d.src_b);
-    d.effect(user, a, sel(1 < d.n_srcs, b, d.op_b))
+    let b = operand_b(x, w, features, reg, d);
+    d.effect(user, a, b)
 }

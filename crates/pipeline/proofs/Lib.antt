@@ -1,3 +1,4 @@
 pub mod Moves
 pub mod Refusing
 pub mod Running
+pub mod Turns

@@ -5,8 +5,8 @@ use mathlib.Core.List.{List}
 use mathlib.Core.Path.{_∙_, _≡_, ap, refl, sym}
 use Rattle.pipeline.specs.Execute.{executed, redirectOf}
 use Rattle.pipeline.specs.Move.{choose, chooseDone, chooseFree, hazard, move, nextExMem, proceedOr}
-use Rattle.pipeline.specs.Names.{Front, Next, PipelineCpu, Redirect, Stages, To, beginWait, keepWaiting}
-use Rattle.pipeline.specs.Stages.{beginsWait, frontOf, heldPlan, moveFrom, movedPlan, placeFrom, planOf}
+use Rattle.pipeline.specs.Names.{Front, IfId, Next, PipelineCpu, Redirect, Stages, To, beginWait, keepWaiting}
+use Rattle.pipeline.specs.Stages.{beginsWait, frontFor, frontOf, heldPlan, moveFrom, movedPlan, placeFrom, planOf}
 use Rattle.pipeline.specs.Stages.{usesLoad, view, waitsOn}
 
 pub choose-keep : (a b u w : Bool) → (g : Redirect) → a && b ≡ true → choose a b u w g ≡ keepWaiting
@@ -53,6 +53,13 @@ uses : (l : Stages) → (rs : List ℕ) → (f : Front) → (u : Bool) → f ≡
 unfolding hazard view usesLoad frontOf
 uses l rs f u ef eu = ap (λ (x : Front). usesLoad l (x .operands)) (sym ef) ∙ sym eu
 
+-- a move that is not a wait going on decodes IF/ID
+fronts : (u : Bool) (g : Redirect) (f : IfId) → frontFor (moveFrom u g) f ≡ frontOf f
+unfolding frontFor moveFrom proceedOr
+fronts true g f = refl
+fronts false Next f = refl
+fronts false (To p m) f = refl
+
 pub plan-begins :
     (l : Stages) →
     (rs : List ℕ) →
@@ -63,7 +70,7 @@ pub plan-begins :
     waitsOn l ≡ false →
     beginsWait l u ≡ true →
     heldPlan l beginWait f ≡ planOf (view l rs)
-unfolding planOf heldPlan view move waitsOn beginsWait placeFrom nextExMem
+unfolding planOf heldPlan view move waitsOn beginsWait placeFrom nextExMem frontFor
 plan-begins l rs f u ef eu k e =
     rw (ef, choose-begin _ _ (hazard (view l rs)) _ _ k (ap (beginsWait l) (uses l rs f u ef eu) ∙ e))
 
@@ -83,5 +90,6 @@ plan-moves l rs f u ef eu k e =
       ef,
       choose-rest _ _ (hazard (view l rs)) _ _ k (ap (beginsWait l) (uses l rs f u ef eu) ∙ e),
       moves-executed (hazard (view l rs)) (redirectOf (view l rs)) (view l rs),
+      fronts (hazard (view l rs)) (redirectOf (view l rs)) (l .«if_id»),
       uses l rs f u ef eu,
     )

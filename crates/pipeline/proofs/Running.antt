@@ -13,10 +13,11 @@ use Rattle.pipeline.specs.Ask.{asks, fetchAt, fetchOf, wantFetch, wantLo
 use Rattle.pipeline.specs.Codes.{Counts, givenCode, planFetches, stageLoads, wanted}
 use Rattle.pipeline.specs.Fetch.{fetchPlace, fetches, nextIdEx, predicted}
 use Rattle.pipeline.specs.Move.{move, nextExMem}
-use Rattle.pipeline.specs.Names.{Fetch, Given, IdEx, Mode, Move, PipelineCpu, Plan, RawInstr, Request, Stages}
+use Rattle.pipeline.specs.Names.{ExMem, Fetch, Given, IdEx, IfId, Mode, Move, PipelineCpu, Plan, RawInstr, Request}
+use Rattle.pipeline.specs.Names.{Stages}
 use Rattle.pipeline.specs.Names.{beginWait, keepWaiting, loadUseStall, proceed, redirect}
 use Rattle.pipeline.specs.Retire.{retire}
-use Rattle.pipeline.specs.Stages.{Room, advancePlan, frontOf, idExFrom, placeFrom, planOf, predictIf}
+use Rattle.pipeline.specs.Stages.{Room, advancePlan, frontFor, frontOf, idExFrom, placeFrom, planOf, predictIf}
 use Rattle.pipeline.specs.Stages.{stagesOf, view}
 use Rattle.pipeline.specs.Tick.{rawOf, taken, wordIn}
 
@@ -81,6 +82,23 @@ id-ex-next : (s : PipelineCpu) → idExFrom (s .«if_id») (frontOf (s .«if_id�
 unfolding idExFrom frontOf nextIdEx decodePredicted idExOf predictIf predict
 id-ex-next s = split ((s .«if_id») .valid) (λ e. rw e) (λ e. rw e)
 
+-- where a wait goes on, the next ID/EX is not looked at
+unlooked :
+    (m : Move) →
+    (l : ExMem) →
+    (f : IfId) →
+    (rs : List ℕ) →
+    (p : ℕ × Mode) →
+    (s : PipelineCpu) →
+    (x : Taken) →
+    advanceBy m l (idExFrom f (frontFor m f) rs) p s x ≡ advanceBy m l (idExFrom f (frontOf f) rs) p s x
+unfolding frontFor advanceBy
+unlooked keepWaiting l f rs p s x = refl
+unlooked beginWait l f rs p s x = refl
+unlooked (loadUseStall g) l f rs p s x = refl
+unlooked proceed l f rs p s x = refl
+unlooked (redirect q m) l f rs p s x = refl
+
 planned :
     (v : PipelineCpu) →
     (x : Taken) →
@@ -88,8 +106,9 @@ planned :
     (fetchPlace (move v) v) v x
     ≡ advanceBy (move v) (nextExMem (move v) v) (nextIdEx v) (fetchPlace (move v) v) v x
 unfolding planOf
-planned v x = ap (λ (d : IdEx). advanceBy (move v) (nextExMem (move v) v) d (fetchPlace (move v) v) v x)
-    (id-ex-next v)
+planned v x =
+    unlooked (move v) (nextExMem (move v) v) (v .«if_id») (v .reg) (fetchPlace (move v) v) v x
+    ∙ ap (λ (d : IdEx). advanceBy (move v) (nextExMem (move v) v) d (fetchPlace (move v) v) v x) (id-ex-next v)
 
 advanced :
     (v : PipelineCpu) →
@@ -120,19 +139,21 @@ pub advance-next :
     (l a : Stages) →
     (rs : List ℕ) →
     (p : Plan) →
-    (t : Given) →
+    (i : RawInstr) →
+    (w : ℕ) →
     view l rs ≡ retire s →
     p ≡ planOf (view l rs) →
     s .running ≡ true →
-    view a rs ≡ advancePlan p l rs (rawOf (t .offer)) (wordIn (t .answer)) →
-    view a rs ≡ next s (taken t)
-unfolding next awake taken
-advance-next s l a rs p t e q r h =
+    view a rs ≡ advancePlan p l rs i w →
+    view a rs ≡ next s (record { answer = w; raw = i })
+unfolding next awake
+advance-next s l a rs p i w e q r h =
     h
-    ∙ ap (λ (y : Plan). advancePlan y l rs (rawOf (t .offer)) (wordIn (t .answer))) q
-    ∙ by-stages l rs (rawOf (t .offer)) (wordIn (t .answer))
-    ∙ ap (λ (v : PipelineCpu). advance (move v) v (taken t)) e
-    ∙ sym (ap (λ (b : Bool). cond b (advance (move (retire s)) (retire s) (taken t)) (resting s)) r)
+    ∙ ap (λ (y : Plan). advancePlan y l rs i w) q
+    ∙ by-stages l rs i w
+    ∙ ap (λ (v : PipelineCpu). advance (move v) v (record { answer = w; raw = i })) e
+    ∙ sym (ap (λ (b : Bool). cond b (advance (move (retire s)) (retire s) (record { answer = w; raw = i }))
+    (resting s)) r)
 
 pub retired-view :
     (s : PipelineCpu) →
@@ -219,8 +240,9 @@ pub run-next :
     i ≡ rawOf (t .offer) →
     view a rs ≡ advancePlan p l rs i w →
     view a rs ≡ next s (taken t)
+unfolding taken
 run-next s l a rs p t w i e q r ew ei h =
-    advance-next s l a rs p t e q r
+    advance-next s l a rs p (rawOf (t .offer)) (wordIn (t .answer)) e q r
     (h
     ∙ ap (λ (y : ℕ). advancePlan p l rs i y) ew
     ∙ ap (λ (y : RawInstr). advancePlan p l rs y (wordIn (t .answer))) ei)

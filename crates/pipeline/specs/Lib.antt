@@ -11,3 +11,5 @@ pub mod Ask
 pub mod Tick
 pub mod Parts
 pub mod Codes
+pub mod Turn
+pub mod Turning

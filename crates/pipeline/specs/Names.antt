@@ -31,7 +31,6 @@ pub use Rattle.isa.specs.declared.Mtsr.{Mtsr as MtsrWrite}
 pub use Rattle.isa.specs.declared.Mtsr.the-variants.{None as NoMtsr, Write}
 pub use Rattle.isa.specs.declared.Operands.{Operands}
 pub use Rattle.isa.specs.declared.Effect.{Effect}
-pub use Rattle.isa.specs.declared.Fields.{Fields}
 pub use Rattle.latch.specs.declared.IfId.{IfId}
 pub use Rattle.latch.specs.declared.IdEx.{IdEx}
 pub use Rattle.latch.specs.declared.ExMem.{ExMem}
@@ -71,3 +70,8 @@ pub use Rattle.pipeline.specs.declared.MulDiv.{MulDiv}
 pub use Rattle.pipeline.specs.declared.MulDiv.the-variants.{Refused as NotMulDiv, None as NoLatency, Latency}
 pub use Rattle.pipeline.specs.declared.Hazard.{Hazard}
 pub use Rattle.pipeline.specs.declared.Hazard.the-variants.{Refused as NoHazardTest, Waits}
+pub use Rattle.sheet.specs.declared.End.{End}
+pub use Rattle.sheet.specs.declared.End.the-variants.{Halted, Spent, Refused as EndRefused, Loads}
+pub use Rattle.sheet.specs.declared.Turn.{Turn}
+pub use Rattle.sheet.specs.declared.Turn.the-variants.{Ends, Ticks}
+pub use Rattle.pipeline.specs.declared.Turned.{Turned}

@@ -6,7 +6,7 @@ use lib.Dec.{ltb}
 use mathlib.Core.Bool.{Bool, _&&_, cond, false, not, true}
 use mathlib.Core.List.{List}
 use mathlib.Core.Path.{_≡_}
-use Rattle.isa.specs.Operands.{operandsOf}
+use Rattle.isa.specs.Operands.{operandsN, operandsOf}
 use Rattle.isa.specs.Redirects.{isTo, modeOr, targetOr}
 use Rattle.isa.specs.Short.{decodedOf}
 use Rattle.isa.specs.Waits.{predictBy}
@@ -17,6 +17,7 @@ use Rattle.latch.specs.Retire.{retiredMode, retiredPc}
 use Rattle.pipeline.specs.Advance.{advanceBy}
 use Rattle.pipeline.specs.Execute.{executed, redirectOf}
 use Rattle.pipeline.specs.Move.{isSlow, move, nextExMem, proceedOr}
+use Rattle.pipeline.specs.Names.{DecNormal, Nop}
 use Rattle.pipeline.specs.Names.{ExMem, Front, IdEx, IfId, Mode, Move, Next, Operands, PipelineCpu, Place}
 use Rattle.pipeline.specs.Names.{Plan, RawInstr, Redirect, Stages, beginWait, keepWaiting, loadUseStall}
 use Rattle.pipeline.specs.Names.{proceed, redirect}
@@ -147,12 +148,28 @@ unfoldable pub moveFrom : Bool → Redirect → Move
 moveFrom true g = loadUseStall g
 moveFrom false g = proceedOr g
 
+-- the front that stands where a wait goes on and IF/ID is not decoded
+unfoldable pub noFront : Front
+noFront = record {
+  decoded = DecNormal Nop;
+  operands = operandsN Nop;
+  predicted = Next;
+}
+
+-- the front of a move
+unfoldable pub frontFor : Move → IfId → Front
+frontFor keepWaiting l = noFront
+frontFor beginWait l = frontOf l
+frontFor (loadUseStall g) l = frontOf l
+frontFor proceed l = frontOf l
+frontFor (redirect p m) l = frontOf l
+
 -- what a tick plans once MEM/WB has retired
 unfoldable pub planOf : PipelineCpu → Plan
 planOf s = record {
   step = move s;
   «ex_mem» = nextExMem (move s) s;
-  front = frontOf (s .«if_id»);
+  front = frontFor (move s) (s .«if_id»);
   place = placeFrom (move s) ((frontOf (s .«if_id»)) .predicted) (s .«fetch_pc») (s .«fetch_mode»);
 }
 

@@ -21,7 +21,7 @@ use latch::IdEx;
 use latch::IfId;
 
 // One less, and 0 for 0.
-fn one_less(n: u32) -> u32
+pub(crate) fn one_less(n: u32) -> u32
     ensures { λ r. ⌜ r ≡ n - 1 ⌝ }
 {
     if 0 < n {
@@ -72,7 +72,7 @@ impl Stages {
     }
 
     // A wait in EX with `left` ticks left.
-    fn wait(self, left: u32, ex_mem: ExMem, answer: u32) -> Stages
+    pub(crate) fn wait(self, left: u32, ex_mem: ExMem, answer: u32) -> Stages
         requires { ⌜ Room self ⌝ }
         ensures { λ r. ⌜ Becomes self (waiting left «ex_mem» answer) r ⌝ }
     {
@@ -175,7 +175,7 @@ impl Stages {
             Move::KeepWaiting => self.wait(one_less(self.ex_cycles_left), ex_mem, answer),
             Move::BeginWait => {
                 let decoded = d.decoded;
-                self.wait(decoded.operands().waits(), ex_mem, answer)
+                self.wait(decoded.waits(), ex_mem, answer)
             }
             Move::LoadUseStall(way) => self.load_use_stall(way, ex_mem, answer),
             Move::Proceed => {

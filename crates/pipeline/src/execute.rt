@@ -2,11 +2,14 @@
 ghost use mathlib.Core.Path.{_≡_};
 ghost use Rattle.pipeline.specs.Execute.{executedBy, redirectBy};
 ghost use Rattle.pipeline.specs.Move.{isSlow, proceedOr};
-ghost use Rattle.pipeline.specs.Stages.{predictIf, frontOf, idExFrom, placeFrom, moveFrom};
+ghost use Rattle.pipeline.specs.Stages.{predictIf, noFront, frontOf, idExFrom, placeFrom, moveFrom};
 use crate::Front;
 use crate::Move;
 use crate::Place;
+use isa::Decoded;
+use isa::Dest;
 use isa::Effect;
+use isa::Instruction;
 use isa::Mode;
 use isa::Operands;
 use isa::Redirect;
@@ -42,7 +45,7 @@ pub(crate) fn is_slow(d: IdEx) -> bool
     ensures { λ r. ⌜ r ≡ isSlow d ⌝ }
 {
     let decoded = d.decoded;
-    d.valid & (0 < decoded.operands().waits())
+    d.valid & (0 < decoded.waits())
 }
 
 fn predict_if(valid: bool, o: Operands, pc: u32, mode: Mode) -> Redirect
@@ -66,6 +69,28 @@ pub(crate) fn front_of(f: IfId) -> Front
         decoded,
         operands,
         predicted: predict_if(f.valid, operands, f.pc, mode),
+    }
+}
+
+// The front that stands where a wait goes on: IF/ID is not decoded then.
+pub(crate) fn no_front() -> Front
+    ensures { λ r. ⌜ r ≡ noFront ⌝ }
+{
+    Front {
+        decoded: Decoded::Normal(Instruction::Nop),
+        operands: Operands {
+            src_a: 0,
+            src_b: 0,
+            n_srcs: 0,
+            dest: Dest::None,
+            is_load: false,
+            is_store: false,
+            latency: 0,
+            is_branch: false,
+            offset: 0,
+            is_mfsr: false,
+        },
+        predicted: Redirect::Next,
     }
 }
 

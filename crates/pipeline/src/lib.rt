@@ -14,6 +14,9 @@
 // - PipelineCpu::execute_ex: an empty EX/MEM for an invalid latch; no redirect where the branch was rightly predicted.
 // - PipelineCpu::decode_id: an invalid latch made of an invalid one; a branch with negative offset predicted taken.
 // - PipelineCpu::retire: MEM/WB emptied; 12 for a machine that does not run (refusal_12_when_not_running).
+// - PipelineCpu::stages, Stages::with: the fetch place for the retire place; registers with R0 cleared.
+// - PipelineCpu::is_broken: an invalid latch not tested; a wait of 15 out of bounds.
+// - Stages::turn: loads before 12 (sheet: loads_before_12); a load's answer taken by a tick that does not load.
 mod advance;
 mod ask;
 mod execute;
@@ -23,6 +26,7 @@ mod refusals;
 mod retire;
 mod start;
 mod tick;
+mod turning;
 
 use isa::Decoded;
 use isa::Mode;
@@ -34,6 +38,7 @@ use latch::ExMem;
 use latch::IdEx;
 use latch::IfId;
 use latch::MemWb;
+use sheet::Turn;
 
 // The state: registers, fetch and retire place, latches, the wait in EX, and the five counters.
 pub struct PipelineCpu {
@@ -155,6 +160,13 @@ pub struct Plan {
     pub ex_mem: ExMem,
     pub front: Front,
     pub place: Place,
+}
+
+// A turn of a run: what it does, whether its tick loads, and the stages after it.
+pub struct Turned {
+    pub turn: Turn,
+    pub loads: bool,
+    pub stages: Stages,
 }
 
 // The answer of `forwarded` by itself.

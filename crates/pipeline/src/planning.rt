@@ -1,4 +1,5 @@
 // The plan of a tick, once MEM/WB has retired.
+ghost use mathlib.Core.Bool.{false};
 ghost use mathlib.Core.Path.{_≡_};
 ghost use Rattle.pipeline.specs.Stages.{view, waitsOn, usesLoad, beginsWait, heldPlan, movedPlan, planOf};
 use crate::Front;
@@ -9,6 +10,7 @@ use crate::execute::executed_by;
 use crate::execute::front_of;
 use crate::execute::is_slow;
 use crate::execute::move_from;
+use crate::execute::no_front;
 use crate::execute::place_from;
 use crate::execute::redirect_by;
 use isa::Operands;
@@ -17,7 +19,7 @@ use latch::execute::effect_from;
 
 impl Stages {
     // A wait in EX with more than one tick left.
-    fn waits_on(self) -> bool
+    pub(crate) fn waits_on(self) -> bool
         ensures { λ r. ⌜ r ≡ waitsOn self ⌝ }
     {
         self.ex_armed & (1 < self.ex_cycles_left)
@@ -74,18 +76,26 @@ impl Stages {
         }
     }
 
-    // The move, the next EX/MEM, the front and the place to fetch from.
-    pub(crate) fn plan(self, reg: &[u32; 32]) -> Plan
+    // The plan where no wait goes on.
+    pub(crate) fn free_plan(self, reg: &[u32; 32]) -> Plan
+        requires { ⌜ waitsOn self ≡ false ⌝ }
         ensures { λ r. ⌜ r ≡ planOf (view self (now (reg .entry))) ⌝ }
     {
         let front = front_of(self.if_id);
-        if self.waits_on() {
-            return self.held_plan(Move::KeepWaiting, front);
-        }
         let used = self.uses_load(front.operands);
         if self.begins_wait(used) {
             return self.held_plan(Move::BeginWait, front);
         }
         self.moved_plan(used, front, reg)
+    }
+
+    // The move, the next EX/MEM, the front and the place to fetch from.
+    pub(crate) fn plan(self, reg: &[u32; 32]) -> Plan
+        ensures { λ r. ⌜ r ≡ planOf (view self (now (reg .entry))) ⌝ }
+    {
+        if self.waits_on() {
+            return self.held_plan(Move::KeepWaiting, no_front());
+        }
+        self.free_plan(reg)
     }
 }

@@ -1,13 +1,15 @@
 // Refusals, as numbers: 0 where none applies.
 ghost use mathlib.Core.Path.{_≡_};
-ghost use Rattle.pipeline.specs.Ask.{broken, stuck};
-ghost use Rattle.pipeline.specs.Codes.{isShort, isOf, offerCode, answerCode, givenCode, Stands, Tells, TellsAll};
+ghost use Rattle.pipeline.specs.Ask.{broken};
+ghost use Rattle.pipeline.specs.Codes.{isShort, isOf, offerCode, answerCode, givenCode, Stands, Tells};
+ghost use Rattle.pipeline.specs.Turning.{stageStuck, TellsFull};
 ghost use Rattle.pipeline.specs.Names.{Instr};
 ghost use Rattle.pipeline.specs.Tick.{fitsOffer, isAnswer, same};
 use crate::Answer;
 use crate::Given;
 use crate::Offer;
 use crate::PipelineCpu;
+use crate::Stages;
 use isa::Decoded;
 use isa::Mode;
 use isa::RawInstr;
@@ -19,9 +21,28 @@ fn is_full(n: u64) -> bool
     n == 18446744073709551615
 }
 
+impl Stages {
+    // Running, and MEM/WB holds an exception, MTSR or IRET.
+    pub(crate) fn is_stuck(self) -> bool
+        ensures { λ r. ⌜ r ≡ stageStuck self ⌝ }
+    {
+        let m = self.mem_wb;
+        self.running & m.is_faulty()
+    }
+
+    // A counter at its top.
+    pub(crate) fn is_brimming(self) -> bool
+        ensures { λ r. ⌜ TellsFull self r ⌝ }
+    {
+        let late = is_full(self.stall_cycles) | is_full(self.flush_events);
+        is_full(self.cycles)
+            | (is_full(self.running_cycles) | (is_full(self.instructions_executed) | late))
+    }
+}
+
 impl PipelineCpu {
     // A latch out of its bounds, or a wait above 15.
-    pub(crate) fn is_broken(self) -> bool
+    pub fn is_broken(self) -> bool
         ensures { λ r. ⌜ r ≡ broken self ⌝ }
     {
         let f = self.if_id;
@@ -32,23 +53,6 @@ impl PipelineCpu {
         f.out_of_bounds() | (d.out_of_bounds() | late)
     }
 
-    // Running, and MEM/WB holds an exception, MTSR or IRET.
-    fn is_stuck(self) -> bool
-        ensures { λ r. ⌜ r ≡ stuck self ⌝ }
-    {
-        let m = self.mem_wb;
-        self.running & m.is_faulty()
-    }
-
-    // A counter at its top.
-    fn is_brimming(self) -> bool
-        ensures { λ r. ⌜ TellsAll self r ⌝ }
-    {
-        let late = is_full(self.stall_cycles) | is_full(self.flush_events);
-        is_full(self.cycles)
-            | (is_full(self.running_cycles) | (is_full(self.instructions_executed) | late))
-    }
-
     // 11, 12 or 13.
     pub(crate) fn standing(self) -> u32
         ensures { λ r. ⌜ Stands self r ⌝ }
@@ -56,10 +60,11 @@ impl PipelineCpu {
         if self.is_broken() {
             return 11;
         }
-        if self.is_stuck() {
+        let l = self.stages();
+        if l.is_stuck() {
             return 12;
         }
-        if self.is_brimming() {
+        if l.is_brimming() {
             return 13;
         }
         0

@@ -13,7 +13,7 @@ use latch::MemWb;
 
 impl Stages {
     // The state with these registers.
-    pub(crate) fn with(self, reg: [u32; 32]) -> PipelineCpu
+    pub fn with(self, reg: [u32; 32]) -> PipelineCpu
         ensures { λ r. ⌜ r ≡ view self reg ⌝ }
     {
         let f = self.fetch_at;
@@ -79,7 +79,7 @@ impl PipelineCpu {
     }
 
     // The state but for its registers.
-    pub(crate) fn stages(self) -> Stages
+    pub fn stages(self) -> Stages
         ensures { λ r. ⌜ r ≡ stagesOf self ⌝ }
     {
         let fetch_mode = self.fetch_mode;

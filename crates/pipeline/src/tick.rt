@@ -43,7 +43,7 @@ impl Stages {
     }
 
     // Whether EX/MEM asks for a load.
-    fn loads(self) -> bool
+    pub(crate) fn loads(self) -> bool
         ensures { λ r. ⌜ r ≡ stageLoads self ⌝ }
     {
         let x = self.ex_mem;

@@ -1,17 +1,21 @@
 //! The expected answer to each case: the original's, behind document 01's refusals.
 
+use crate::buffers::Buffers;
 use crate::case::Case;
 use crate::cpu_pipeline::harness::original::Original;
 use crate::cpu_pipeline::harness::wrong::{Judged, Wrong};
 use crate::refusals::{self, NONE, OUT_OF_BOUNDS};
 use crate::row::Row;
-use crate::rows::{Answer, Begin, Decoded, IdEx, IfId, Offer, Seen, State};
+use crate::rows::{Answer, Begin, Decoded, Given, IdEx, IfId, Offer, Seen, State};
+use crate::runner::{self, DOCUMENT_01, Rules};
 
-/// Answers cases one after the other, and holds the state of the list under way.
+/// Answers cases one after the other, and holds the state of the list under way and the buffers of runs.
 pub struct Answers {
     original: Original,
     held: State,
+    buffers: Buffers,
     wrong: Option<&'static Wrong>,
+    rules: Rules,
 }
 
 impl Answers {
@@ -38,7 +42,9 @@ impl Answers {
         Self {
             original,
             held,
+            buffers: Buffers::new(),
             wrong,
+            rules: wrong.map_or(DOCUMENT_01, |wrong| wrong.rules()),
         }
     }
 
@@ -58,8 +64,11 @@ impl Answers {
             Case::ListStart(begin) => self.held = self.original.start(begin),
             Case::ListTick(offer, answer) => self.list_tick(offer, answer, out),
             Case::ListShow => self.held.put(out),
+            Case::PutSheet(at, block) => self.buffers.put_sheet(*at, block),
+            Case::PutAnswers(at, block) => self.buffers.put_answers(*at, block),
+            Case::Run(state, given) => self.run(state, given, out),
         }
-        !matches!(case, Case::ListStart(_))
+        case.has_a_result()
     }
 
     /// Does one tick: the code, the state handed back and what asking names before it.
@@ -118,6 +127,12 @@ impl Answers {
         self.held = next;
         code.put(out);
         seen.put(out);
+    }
+
+    /// Answers a run of the sheet held.
+    fn run(&mut self, state: &State, given: &Given, out: &mut Vec<u32>) {
+        let task = self.buffers.task(given);
+        runner::run(&mut self.original, &self.rules, state, &task).put(out);
     }
 
     /// Answers what a tick would ask for.

@@ -7,7 +7,8 @@ mod numbers;
 pub use kind::Kind;
 pub use names::result_names;
 
-use crate::rows::{Answer, Begin, Decoded, IdEx, IfId, Offer, State};
+use crate::buffers::Block;
+use crate::rows::{Answer, Begin, Decoded, Given, IdEx, IfId, Offer, State};
 
 /// One question.
 #[derive(Debug, Clone, Copy, PartialEq, Eq)]
@@ -26,4 +27,17 @@ pub enum Case {
     ListStart(Begin),
     ListTick(Offer, Answer),
     ListShow,
+    PutSheet(u32, Block),
+    PutAnswers(u32, Block),
+    Run(State, Given),
+}
+
+impl Case {
+    /// Tells whether the case has a result line.
+    pub fn has_a_result(&self) -> bool {
+        !matches!(
+            self,
+            Case::ListStart(_) | Case::PutSheet(..) | Case::PutAnswers(..)
+        )
+    }
 }

@@ -1,6 +1,7 @@
 //! Compares another program's answers with the expected ones.
 
 mod feed;
+mod outcome;
 mod report;
 
 use crate::case::Kind;

@@ -2,6 +2,7 @@
 
 pub mod answer;
 mod answers;
+mod buffers;
 pub mod case;
 pub mod compare;
 mod edge_words;
@@ -13,9 +14,12 @@ mod maker;
 mod refusals;
 mod row;
 mod rows;
+mod runner;
 pub mod sample;
 pub mod self_test;
+mod sheet;
 pub mod stand_ins;
+pub mod tickrun;
 
 use stand_ins::{bus, cpu, cpu_cache, devices, tracing};
 

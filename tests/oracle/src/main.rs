@@ -7,6 +7,7 @@ use std::process::ExitCode;
 
 const USAGE: &str = "usage:
   oracle list
+  oracle tickrun
   oracle compare PROGRAM KIND COUNT SEED
   oracle cases KIND COUNT SEED
   oracle sample COUNT SEED CASES EXPECTED
@@ -30,6 +31,7 @@ fn main() -> ExitCode {
 fn run(words: &[&str]) -> Result<bool> {
     match *words {
         ["list"] => list().map(|()| true),
+        ["tickrun"] => oracle::tickrun::run(stdin().lock(), out()).map(|()| true),
         ["answer"] => oracle::answer::run(stdin().lock(), out()).map(|()| true),
         ["compare", program, kind, count, seed] => {
             oracle::compare::run(program, self::kind(kind)?, number(count)?, number(seed)?)

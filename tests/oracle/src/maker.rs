@@ -3,6 +3,8 @@
 mod begin;
 mod bounds;
 mod counters;
+mod damage;
+mod fuzz;
 mod instruction;
 mod latch;
 mod list;
@@ -11,14 +13,19 @@ mod offer;
 mod operands;
 mod part;
 mod program;
+mod records;
+mod run;
+mod sending;
 mod state;
 
 use crate::answers::Answers;
+use crate::buffers::Buffers;
 use crate::case::{Case, Kind};
 use crate::cpu_pipeline::harness::original::Original;
 use crate::edge_words::EDGE_WORDS;
 use crate::generator::Generator;
 use crate::rows::{NORMAL, SHORT};
+use fuzz::Background;
 
 /// The feature word of the original.
 pub const ORIGINAL_FEATURES: u32 = 0x7bf;
@@ -31,6 +38,11 @@ pub struct Maker {
     registers: [u32; 4],
     words: [u32; 3],
     base: u32,
+    /// The buffers of the next run, and what the lines before have put into them.
+    wanted: Buffers,
+    held: Buffers,
+    records_in_use: u32,
+    background: Background,
 }
 
 impl Maker {
@@ -43,10 +55,14 @@ impl Maker {
             registers: [0; 4],
             words: [0; 3],
             base: 0,
+            wanted: Buffers::new(),
+            held: Buffers::new(),
+            records_in_use: 0,
+            background: Background::new(),
         }
     }
 
-    /// Appends the next case of a kind, or all the cases of the next list.
+    /// Appends the next case of a kind, or all the lines of the next list or run.
     pub fn next(&mut self, kind: Kind, out: &mut Vec<Case>) {
         self.choose_few();
         let case = match kind {
@@ -61,8 +77,16 @@ impl Maker {
             Kind::Retire => self.retire(),
             Kind::Start => Case::Start(self.begin()),
             Kind::Lists => return self.list(out),
+            Kind::Runs => return self.run(false, out),
+            Kind::Fuzz => return self.fuzz(out),
         };
         out.push(case);
+    }
+
+    /// Appends the lines of the next small run.
+    pub fn next_small_run(&mut self, out: &mut Vec<Case>) {
+        self.choose_few();
+        self.run(true, out);
     }
 
     /// Chooses the registers, words and addresses of the next case.

@@ -1,4 +1,4 @@
-//! Document 01's refusals 11, 12, 13 and 1 to 4, read by themselves; the original refuses nothing.
+//! Document 01's refusals, read by themselves; the original refuses nothing.
 
 use crate::cpu_pipeline::harness::Numbers;
 use crate::rows::{
@@ -12,6 +12,9 @@ pub const NORMAL_REGISTER: u32 = 1;
 pub const OFFERED_MFSR: u32 = 2;
 pub const UNWANTED_OFFER: u32 = 3;
 pub const UNWANTED_ANSWER: u32 = 4;
+pub const BAD_RECORD: u32 = 5;
+pub const BAD_LENGTH: u32 = 6;
+pub const LIMIT_TOO_HIGH: u32 = 7;
 pub const OUT_OF_BOUNDS: u32 = 11;
 pub const NOT_RETIRABLE: u32 = 12;
 pub const COUNTER_FULL: u32 = 13;
@@ -34,12 +37,25 @@ pub fn standing(state: &State) -> u32 {
 
 /// Tells the refusal by what is offered to a tick that asks for this, or none.
 pub fn offered(offer: &Offer, answer: &Answer, seen: &Seen) -> u32 {
-    match offer {
-        Offer::Normal(instruction) if names_a_register_above_31(instruction) => NORMAL_REGISTER,
-        Offer::Normal(instruction) if instruction.variant == MFSR => OFFERED_MFSR,
-        _ if !is_wanted(offer, seen) => UNWANTED_OFFER,
-        _ if answer.given != (seen.request == LOAD) => UNWANTED_ANSWER,
-        _ => NONE,
+    let of_the_instruction = match offer {
+        Offer::Normal(offered) => instruction(offered),
+        Offer::Nothing | Offer::Short(_) => NONE,
+    };
+    match of_the_instruction {
+        NONE if !is_wanted(offer, seen) => UNWANTED_OFFER,
+        NONE if answer.given != (seen.request == LOAD) => UNWANTED_ANSWER,
+        code => code,
+    }
+}
+
+/// Tells the refusal of a Normal instruction wherever it is offered, or none.
+pub fn instruction(instruction: &Numbers) -> u32 {
+    if names_a_register_above_31(instruction) {
+        NORMAL_REGISTER
+    } else if instruction.variant == MFSR {
+        OFFERED_MFSR
+    } else {
+        NONE
     }
 }
 

@@ -6,7 +6,7 @@ mod state;
 
 pub use instruction::{Decoded, Offer, Raw};
 pub use latch::{ExMem, IdEx, IfId, MemWb};
-pub use state::{Answer, Begin, Redirect, Seen, State};
+pub use state::{Answer, Begin, Given, Redirect, Seen, State};
 
 /// Numbers of the two modes.
 pub const NORMAL: u32 = 0;

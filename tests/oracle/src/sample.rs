@@ -6,6 +6,9 @@ use crate::line;
 use crate::maker::Maker;
 use std::io::{Result, Write};
 
+/// One small run of a sheet for so many cases of the other kinds.
+const CASES_FOR_A_RUN: u64 = 16;
+
 /// Writes the case lines of one kind.
 pub fn cases(kind: Kind, count: u64, seed: u64, mut out: impl Write) -> Result<()> {
     let mut maker = Maker::new(seed);
@@ -17,14 +20,18 @@ pub fn cases(kind: Kind, count: u64, seed: u64, mut out: impl Write) -> Result<(
     out.flush()
 }
 
-/// Writes so many cases of all kinds in turn, and their expected lines beside them.
+/// Writes so many cases in turn, then some small runs of a sheet, and their expected lines beside them.
 pub fn mixed(count: u64, seed: u64, mut cases: impl Write, mut expected: impl Write) -> Result<()> {
     let mut maker = Maker::new(seed);
     let mut answers = Answers::new(None);
-    let kinds = Kind::all().cycle().take(count as usize);
-    for kind in kinds {
+    let kinds = Kind::without_runs().cycle().take(count as usize).map(Some);
+    let runs = (0..count / CASES_FOR_A_RUN).map(|_| None);
+    for kind in kinds.chain(runs) {
         let mut made = Vec::new();
-        maker.next(kind, &mut made);
+        match kind {
+            Some(kind) => maker.next(kind, &mut made),
+            None => maker.next_small_run(&mut made),
+        }
         write_cases(&made, &mut cases)?;
         write_answers(&made, &mut answers, &mut expected)?;
     }

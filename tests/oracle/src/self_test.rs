@@ -7,7 +7,7 @@ use crate::maker::{Maker, ORIGINAL_FEATURES};
 use std::io::{Result, Write};
 
 /// The kinds whose answers use stand-ins.
-const WITH_STAND_INS: [Kind; 7] = [
+const WITH_STAND_INS: [Kind; 8] = [
     Kind::Tick,
     Kind::Ask,
     Kind::Forwarded,
@@ -15,6 +15,7 @@ const WITH_STAND_INS: [Kind; 7] = [
     Kind::Decode,
     Kind::Retire,
     Kind::Lists,
+    Kind::Runs,
 ];
 
 /// Tries the stand-ins and every wrong turn, and tells whether all was well.
@@ -53,7 +54,8 @@ fn use_the_original_feature_word(case: &mut Case) {
         | Case::Forwarded(state, _)
         | Case::Execute(state, _)
         | Case::Decode(state, _)
-        | Case::Retire(state) => state.features = ORIGINAL_FEATURES,
+        | Case::Retire(state)
+        | Case::Run(state, _) => state.features = ORIGINAL_FEATURES,
         Case::ListStart(begin) => begin.features = ORIGINAL_FEATURES,
         _ => {}
     }
@@ -92,7 +94,7 @@ fn try_wrong_turns(count: u64, seed: u64, out: &mut impl Write) -> Result<bool> 
     Ok(missed == 0)
 }
 
-/// Says after how many cases or lists a wrong turn is found.
+/// Says after how many cases, lists or runs a wrong turn is found.
 fn found_after(wrong: &'static Wrong, kind: Kind, count: u64, seed: u64) -> Option<u64> {
     let mut maker = Maker::new(seed);
     let (mut right, mut bent) = (Answers::new(None), Answers::new(Some(wrong)));

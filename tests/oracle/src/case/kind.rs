@@ -14,10 +14,12 @@ pub enum Kind {
     Retire,
     Start,
     Lists,
+    Runs,
+    Fuzz,
 }
 
 /// Every kind with its name.
-const NAMES: [(Kind, &str); 11] = [
+const NAMES: [(Kind, &str); 13] = [
     (Kind::Tick, "tick"),
     (Kind::Ask, "ask"),
     (Kind::Forwarded, "forwarded"),
@@ -29,12 +31,15 @@ const NAMES: [(Kind, &str); 11] = [
     (Kind::Retire, "retire"),
     (Kind::Start, "start"),
     (Kind::Lists, "lists"),
+    (Kind::Runs, "runs"),
+    (Kind::Fuzz, "fuzz"),
 ];
 
 impl Kind {
-    /// Gives every kind.
-    pub fn all() -> impl Iterator<Item = Kind> + Clone {
-        NAMES.iter().map(|&(kind, _)| kind)
+    /// Gives every kind without runs of a sheet.
+    pub fn without_runs() -> impl Iterator<Item = Kind> + Clone {
+        let kinds = NAMES.iter().map(|&(kind, _)| kind);
+        kinds.filter(|kind| !matches!(kind, Kind::Runs | Kind::Fuzz))
     }
 
     /// Finds a kind by its name.

@@ -3,11 +3,12 @@
 use super::Case;
 use crate::row::Row;
 use crate::rows::{ExMem, IdEx, Redirect, Seen, State};
+use crate::runner::Run;
 
 /// Gives the names of the numbers that a case's result line holds.
 pub fn result_names(case: &Case) -> Vec<String> {
     let mut names = Vec::new();
-    if !matches!(case, Case::Start(_) | Case::ListShow) {
+    if !matches!(case, Case::Start(_) | Case::ListShow | Case::Run(..)) {
         names.push("code".to_string());
     }
     match case {
@@ -24,7 +25,8 @@ pub fn result_names(case: &Case) -> Vec<String> {
         Case::Sources(_) => names.extend(["src0", "src1"].map(String::from)),
         Case::MulDiv(_) => names.push("latency".to_string()),
         Case::Hazard(..) => names.push("hazard".to_string()),
-        Case::ListStart(_) => {}
+        Case::Run(..) => Run::names(&mut names),
+        Case::ListStart(_) | Case::PutSheet(..) | Case::PutAnswers(..) => {}
     }
     names
 }

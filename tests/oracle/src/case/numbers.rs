@@ -1,7 +1,9 @@
 //! A case as the numbers of its line.
 
 use super::Case;
+use crate::buffers::{ANSWERS, BLOCK_BYTES, BLOCK_WORDS, Block, SHEET_BYTES};
 use crate::row::Row;
+use crate::rows::Given;
 
 impl Case {
     /// Gives the number that a case's line begins with.
@@ -20,6 +22,9 @@ impl Case {
             Case::ListStart(..) => 0xf,
             Case::ListTick(..) => 0x10,
             Case::ListShow => 0x11,
+            Case::PutSheet(..) => 0x12,
+            Case::PutAnswers(..) => 0x13,
+            Case::Run(..) => 0x14,
         }
     }
 
@@ -29,34 +34,20 @@ impl Case {
         match self {
             Case::Tick(state, offer, answer) => {
                 state.put(out);
-                offer.put(out);
-                answer.put(out);
+                put_both(offer, answer, out);
             }
             Case::Ask(state) | Case::Retire(state) => state.put(out),
-            Case::Forwarded(state, register) => {
-                state.put(out);
-                register.put(out);
-            }
-            Case::Execute(state, latch) => {
-                state.put(out);
-                latch.put(out);
-            }
-            Case::Decode(state, latch) => {
-                state.put(out);
-                latch.put(out);
-            }
+            Case::Forwarded(state, register) => put_both(state, register, out),
+            Case::Execute(state, latch) => put_both(state, latch, out),
+            Case::Decode(state, latch) => put_both(state, latch, out),
             Case::Sources(latch) => latch.put(out),
             Case::MulDiv(decoded) => decoded.put(out),
-            Case::Hazard(latch, first, second) => {
-                latch.put(out);
-                [*first, *second].put(out);
-            }
+            Case::Hazard(latch, first, second) => put_both(latch, &[*first, *second], out),
             Case::Start(begin) | Case::ListStart(begin) => begin.put(out),
-            Case::ListTick(offer, answer) => {
-                offer.put(out);
-                answer.put(out);
-            }
+            Case::ListTick(offer, answer) => put_both(offer, answer, out),
             Case::ListShow => {}
+            Case::PutSheet(at, block) | Case::PutAnswers(at, block) => put_both(at, block, out),
+            Case::Run(state, given) => put_both(state, given, out),
         }
     }
 
@@ -84,7 +75,30 @@ impl Case {
             0xf => Case::ListStart(Row::take(rest)?),
             0x10 => Case::ListTick(Row::take(rest)?, Row::take(rest)?),
             0x11 => Case::ListShow,
+            0x12 => read_block(rest, SHEET_BYTES - BLOCK_BYTES, Case::PutSheet)?,
+            0x13 => read_block(rest, ANSWERS - BLOCK_WORDS, Case::PutAnswers)?,
+            0x14 => Case::Run(Row::take(rest)?, read_given(rest)?),
             _ => return None,
         })
     }
+}
+
+/// Appends the numbers of two groups.
+fn put_both(first: &impl Row, second: &impl Row, out: &mut Vec<u32>) {
+    first.put(out);
+    second.put(out);
+}
+
+/// Reads a place in a buffer, up to the last, and what is put there.
+fn read_block(rest: &mut &[u32], last: usize, case: fn(u32, Block) -> Case) -> Option<Case> {
+    let at = u32::take(rest)?;
+    let block = Block::take(rest)?;
+    (at as usize <= last).then_some(case(at, block))
+}
+
+/// Reads what a run is given, within the buffers.
+fn read_given(rest: &mut &[u32]) -> Option<Given> {
+    let given = Given::take(rest)?;
+    let held = given.sheet_length as usize <= SHEET_BYTES && given.answer_count as usize <= ANSWERS;
+    held.then_some(given)
 }

@@ -1,7 +1,8 @@
 //! Counts answers and shows the first that differ.
 
 use super::feed::Expected;
-use crate::case::{Case, Kind, result_names};
+use super::outcome::Outcome;
+use crate::case::{Kind, result_names};
 use crate::line;
 use std::collections::BTreeMap;
 use std::fmt::Write;
@@ -14,7 +15,7 @@ const SHOWN: u64 = 5;
 pub struct Report {
     kind: Kind,
     lines: u64,
-    codes: BTreeMap<u32, u64>,
+    outcomes: BTreeMap<Outcome, u64>,
     mismatches: u64,
     notes: Vec<String>,
     began: Instant,
@@ -26,7 +27,7 @@ impl Report {
         Self {
             kind,
             lines: 0,
-            codes: BTreeMap::new(),
+            outcomes: BTreeMap::new(),
             mismatches: 0,
             notes: Vec::new(),
             began: Instant::now(),
@@ -36,8 +37,8 @@ impl Report {
     /// Counts one answer and keeps it if it differs.
     pub fn count(&mut self, expected: &Expected, got: &[u8]) {
         self.lines += 1;
-        if let Some(code) = code_of(expected) {
-            *self.codes.entry(code).or_default() += 1;
+        if let Some(outcome) = Outcome::of(expected) {
+            *self.outcomes.entry(outcome).or_default() += 1;
         }
         if expected.line != got {
             self.mismatches += 1;
@@ -61,11 +62,8 @@ impl Report {
     /// Prints the counts in one line, then what differs.
     pub fn print(&self) {
         let mut line = format!("{}: {} answers", self.kind.name(), self.lines);
-        for (code, count) in &self.codes {
-            let _ = match code {
-                0 => write!(line, ", accepted {count}"),
-                _ => write!(line, ", refused {code} {count}"),
-            };
+        for (outcome, count) in &self.outcomes {
+            let _ = write!(line, ", {outcome} {count}");
         }
         let seconds = self.began.elapsed().as_secs_f64();
         println!("{line}, mismatches {}, {seconds:.1} s", self.mismatches);
@@ -73,16 +71,6 @@ impl Report {
             println!("{note}");
         }
     }
-}
-
-/// Gives the code of an expected answer, unless its line has none.
-fn code_of(expected: &Expected) -> Option<u32> {
-    if matches!(expected.case, Case::Start(_) | Case::ListShow) {
-        return None;
-    }
-    let line = std::str::from_utf8(&expected.line).ok()?;
-    let end = line.find([' ', '\n'])?;
-    u32::from_str_radix(&line[..end], 16).ok()
 }
 
 /// Tells a case, both answers and the names of the numbers that differ.

@@ -28,13 +28,25 @@ impl Maker {
 
     /// Sets one counter to its top.
     pub fn fill_one(&mut self, state: &mut State) {
-        let counter = match self.random.below(5) {
+        *self.some_counter(state) = u64::MAX;
+    }
+
+    /// Sets one or two counters so that they reach their top within a run.
+    pub fn bring_counters_near_the_top(&mut self, state: &mut State) {
+        for _ in 0..1 + self.random.below(2) {
+            let missing = u64::from(self.random.below(16));
+            *self.some_counter(state) = u64::MAX - missing;
+        }
+    }
+
+    /// Chooses one of the five counters.
+    fn some_counter<'a>(&mut self, state: &'a mut State) -> &'a mut u64 {
+        match self.random.below(5) {
             0 => &mut state.cycles,
             1 => &mut state.running_cycles,
             2 => &mut state.instructions_executed,
             3 => &mut state.stall_cycles,
             _ => &mut state.flush_events,
-        };
-        *counter = u64::MAX;
+        }
     }
 }

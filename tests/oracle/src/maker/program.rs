@@ -55,7 +55,7 @@ impl Maker {
     }
 
     /// Makes a Normal instruction for a program, with short ways for branches and jumps.
-    fn listed_normal(&mut self, others: u32) -> Numbers {
+    pub fn listed_normal(&mut self, others: u32) -> Numbers {
         let variant = match self.random.below(37 + others) {
             0..11 => self.random.pick(&PLAIN),
             11..22 => self.random.pick(&MEMORY),
@@ -85,7 +85,7 @@ impl Maker {
     }
 
     /// Makes a short instruction for a program.
-    fn listed_short(&mut self) -> u32 {
+    pub fn listed_short(&mut self) -> u32 {
         let low = self.halfword() & 0xfff;
         match self.random.below(40) {
             0..4 => low,

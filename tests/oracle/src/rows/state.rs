@@ -48,6 +48,15 @@ row! {
 }
 
 row! {
+    /// What a run is given besides the state and the buffers: the limit and how much of each buffer.
+    Given {
+        limit: u32,
+        sheet_length: u32,
+        answer_count: u32,
+    }
+}
+
+row! {
     /// What a tick asks for: a fetch or none, then a load, a store or none.
     #[derive(Default)]
     Seen {

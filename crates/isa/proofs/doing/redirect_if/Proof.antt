@@ -1,10 +1,8 @@
 -- `isa::redirect_if` meets its contract. Assumes nothing.
-use Rattle.isa.specs.Fields.{redirectIf}
 use Rattle.isa.proofs.doing.redirect_if.Statement.{statement}
 use Rattle.isa.proofs.doing.redirect_if.Tie as tie
 
 pub redirect-if-spec : {M : Type 1} → statement M
-unfolding redirectIf
 redirect-if-spec = tie.close (tie.spec
     (λ c. rw (c .if1 .taken))
     (λ c. rw (c .if1 .left)))

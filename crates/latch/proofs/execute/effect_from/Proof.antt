@@ -7,10 +7,5 @@ use Rattle.latch.proofs.execute.effect_from.Tie as tie
 pub effect-from-spec : {M : Type 1} → statement M
 unfolding effectFrom
 effect-from-spec = tie.close (tie.spec
-    (λ c κs. search needs) (λ c κs. search needs) (λ c κs. search needs) (λ c κs. search needs)
-    (λ c. rw (
-      c .effect .ensures,
-      c .before .sel .ensures,
-      c .before .before .before .forwarded2 .ensures,
-      c .before .before .before .before .forwarded .ensures,
-    )))
+    (λ c κs. search needs) (λ c κs. search needs) (λ c κs. search needs)
+    (λ c. rw (c .effect .ensures, c .before .operand-b .ensures, c .before .before .forwarded .ensures)))

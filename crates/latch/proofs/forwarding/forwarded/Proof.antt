@@ -1,16 +1,20 @@
 -- `latch::forwarding::forwarded` meets its contract. Assumes nothing.
 use borrow.Author.Needs.{needs}
-use Rattle.latch.specs.Forwarding.{forwardFrom}
+use borrow.Author.Tests.{eq-eqb, ne-eqb}
+use Rattle.latch.specs.Forwarding.{forwardFrom, fromExMem}
 use Rattle.latch.proofs.forwarding.forwarded.Statement.{statement}
 use Rattle.latch.proofs.forwarding.forwarded.Tie as tie
 
 pub forwarded-spec : {M : Type 1} → statement M
-unfolding forwardFrom
+unfolding forwardFrom fromExMem
 forwarded-spec = tie.close (tie.spec
-    (λ c κs. search needs) (λ c κs. search needs) (λ c κs. search needs) (λ c κs. search needs)
+    (λ c. rw (eq-eqb _ 0 (c .if1 .taken)))
+    (λ c κs. search needs)
+    (λ c. rw (ne-eqb _ 0 (c .before .before .if1 .left), ← (c .before .writes .ensures), c .if2 .taken))
+    (λ c κs. search needs) (λ c κs. search needs) (λ c κs. search needs)
     (λ c. rw (
-      c .sel .ensures,
-      c .before .forward2 .ensures,
-      c .before .before .forward .ensures,
-      c .before .before .before .read-reg .ensures,
+      ne-eqb _ 0 (c .before .before .before .before .before .if1 .left),
+      c .forward2 .ensures,
+      c .before .forward .ensures,
+      c .before .before .read-reg .ensures,
     )))

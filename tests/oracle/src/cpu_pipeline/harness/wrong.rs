@@ -11,6 +11,8 @@ mod predicting;
 mod redirecting;
 mod refusing;
 mod retiring;
+mod running;
+mod sheet;
 mod spoiling;
 mod starting;
 mod waiting;
@@ -18,6 +20,7 @@ mod waiting;
 use super::{Decoded, ExMem, IdEx, IfId, PipelineCpu};
 use crate::case::Kind;
 use crate::rows::{Answer, Begin, Offer, Seen, State};
+use crate::runner::{DOCUMENT_01, Rules};
 use std::borrow::Cow;
 
 /// A wrong turn and the kinds of cases that must tell it from the right way.
@@ -82,6 +85,8 @@ pub(super) enum Hook {
     Hazard(fn(&IdEx, &[usize; 2], &mut bool)),
     /// Changes the fresh state.
     Started(fn(&Begin, &mut State)),
+    /// Replaces a rule of the sheet or the runner.
+    Ruled(fn(&mut Rules)),
 }
 
 impl Wrong {
@@ -118,6 +123,15 @@ impl Wrong {
             _ => judged.code,
         }
     }
+
+    /// Gives the rules of the sheet and the runner as this wrong turn has them.
+    pub fn rules(&self) -> Rules {
+        let mut rules = DOCUMENT_01;
+        if let Hook::Ruled(turn) = self.hook {
+            turn(&mut rules);
+        }
+        rules
+    }
 }
 
 /// Makes an entry of the tables.
@@ -147,6 +161,8 @@ pub fn all() -> impl Iterator<Item = &'static Wrong> {
         asking::TURNS,
         parts::TURNS,
         starting::TURNS,
+        sheet::TURNS,
+        running::TURNS,
     ]
     .into_iter()
     .flatten()

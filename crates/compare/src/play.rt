@@ -1,0 +1,72 @@
+// Runs of the held sheet.
+use crate::answer::Reply;
+use crate::asked::Requests;
+use crate::asked::requests_of;
+use crate::place::num;
+use crate::place::set;
+use crate::read_state::state;
+use crate::write_state::set_state;
+use runs::Ran;
+use sheet::End;
+
+fn set_end(n: &mut [u32; 192], kind: u32, number: u32) {
+    n[0] = kind;
+    n[1] = number;
+}
+
+// 0 halted, 1 spent, 2 loads, 3 refused with its number.
+fn put_end(n: &mut [u32; 192], end: End) {
+    match end {
+        End::Halted => set_end(n, 0, 0),
+        End::Spent => set_end(n, 1, 0),
+        End::Loads => set_end(n, 2, 0),
+        End::Refused(number) => set_end(n, 3, number),
+    }
+}
+
+// Moves the state's numbers up, so that five have room before them.
+fn move_state(n: &mut [u32; 192]) {
+    let mut i: usize = 120;
+    while i > 0 {
+        let x = num(n, i, 0);
+        set(n, i, 4, x);
+        i -= 1;
+    }
+}
+
+fn put_run(n: &mut [u32; 192], ran: Ran, requests: Requests) -> Reply {
+    let end = ran.end;
+    let s = ran.state;
+    set_state(n, s);
+    move_state(n);
+    put_end(n, end);
+    n[2] = ran.ticks;
+    n[3] = requests.count;
+    n[4] = requests.hash;
+    Reply::Numbers(0, 125)
+}
+
+fn run_of(n: &mut [u32; 192], sheet: &[u8], answers: &[u32]) -> Reply {
+    let s = state(n);
+    let ran = runner::run(s, sheet, answers, n[121]);
+    let requests = requests_of(s, sheet, answers, ran.ticks);
+    put_run(n, ran, requests)
+}
+
+// A run with the first so many of the answers that are held.
+fn run_with(n: &mut [u32; 192], sheet: &[u8], answers: &[u32]) -> Reply {
+    let count = num(n, 123, 0) as usize;
+    if count <= answers.len() {
+        return run_of(n, sheet, &answers[..count]);
+    }
+    Reply::Numbers(0, 0)
+}
+
+// A run of the first so many bytes that are held; an empty line where they are fewer.
+pub fn run(n: &mut [u32; 192], sheet: &[u8], answers: &[u32]) -> Reply {
+    let bytes = num(n, 122, 0) as usize;
+    if bytes <= sheet.len() {
+        return run_with(n, &sheet[..bytes], answers);
+    }
+    Reply::Numbers(0, 0)
+}

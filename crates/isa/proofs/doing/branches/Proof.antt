@@ -1,0 +1,18 @@
+-- `isa::branches` meets its contract. Assumes nothing.
+use borrow.Author.Needs.{needs}
+use mir.Facts.{toZ-ofZ}
+use mir.Syntax.{w16}
+use Rattle.isa.specs.Effect.{branches}
+use Rattle.isa.proofs.doing.branches.Statement.{statement}
+use Rattle.isa.proofs.doing.branches.Tie as tie
+
+pub branches-spec : {M : Type 1} → statement M
+unfolding branches
+branches-spec = tie.close (tie.spec
+    (λ c κs. search needs) (λ c κs. search needs) (λ c κs. search needs)
+    (λ c. rw (
+      c .calm .ensures,
+      c .before .redirect-if .ensures,
+      c .before .before .add-signed .ensures,
+      toZ-ofZ {w = w16} {z = c .before .before .before .args .o} (c .before .before .before .fits .o),
+    )))

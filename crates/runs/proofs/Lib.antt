@@ -1,0 +1,12 @@
+pub mod Turns
+pub mod Replies
+pub mod Plays
+pub mod Ticks
+pub mod Halted
+pub mod Counters
+pub mod Due
+pub mod Unstopped
+pub mod Halts
+pub mod Rows
+pub mod Sheets
+pub mod Claims

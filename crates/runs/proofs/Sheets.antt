@@ -1,0 +1,40 @@
+-- The claims said of the runner on a sheet's bytes. Assumes nothing.
+use Prim.Native.Nat.{_≤_, ℕ}
+use borrow.Author.Tests.{le-ltb}
+use lib.Dec.{ltb}
+use mathlib.Core.Bool.{false}
+use mathlib.Core.List.{List}
+use mathlib.Core.Path.{_≡_}
+use native.Mathlib.Omega.{arith}
+use Rattle.accuracy.proofs.Bounds.{fresh-in}
+use Rattle.isa.proofs.Bools.{split}
+use Rattle.pipeline.specs.Ask.{broken}
+use Rattle.pipeline.specs.Start.{fresh}
+use Rattle.runs.proofs.Halted.{run-halted}
+use Rattle.runs.proofs.Halts.{run-halts}
+use Rattle.runs.specs.Claims.{SheetHalted, SheetHalts}
+use Rattle.runs.specs.Names.{PipelineCpu}
+use Rattle.runs.specs.Run.{play, ran, refusedRun, reported, runCode}
+use Rattle.sheet.proofs.Fair.{sheet-fair}
+use Rattle.sheet.specs.Sheet.{offerAt, sheetCode}
+
+-- the report of a run that is not refused before its first turn
+ran-is : (s : PipelineCpu) (sheet l : List ℕ) (limit : ℕ) → sheetCode sheet ≡ 0 → limit ≤ 1000000 → broken s ≡ false
+    → ran s sheet l limit ≡ reported (play (offerAt sheet) limit l s)
+unfolding ran runCode
+ran-is s sheet l limit e h b = rw (e, le-ltb 1000000 limit h, b)
+
+pub sheet-halts : SheetHalts
+unfolding reported
+sheet-halts sheet e regs pc mode user features len limit l h N d r t =
+    let k = run-halts (offerAt sheet) (sheet-fair sheet e) regs pc mode user features len limit l h N d r t in
+    rw (ran-is (fresh regs pc mode user features) sheet l limit e h (fresh-in regs pc mode user features))
+    (k .end, k .retired)
+
+pub sheet-halted : SheetHalted
+unfolding ran refusedRun reported
+sheet-halted sheet regs pc mode user features len limit l =
+    split (ltb 0 (runCode (fresh regs pc mode user features) sheet limit))
+    (λ a. rw a (λ e. absurd (let z : _≡_ {A = ℕ} 0 1 = cc in omega arith)))
+    (λ a. rw a (λ e. let k = run-halted (offerAt sheet) regs pc mode user features len limit l e in
+    record { ticks = k .ticks; reg = k .reg; did = k .did; halts = k .halts }))

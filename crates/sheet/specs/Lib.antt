@@ -1,0 +1,5 @@
+pub mod Fair
+pub mod Names
+pub mod Records
+pub mod Sheet
+pub mod Turns

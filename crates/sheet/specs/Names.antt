@@ -1,0 +1,17 @@
+-- The declared types and their constructors, each under one name.
+pub use Rattle.isa.specs.declared.Mode.{Mode}
+pub use Rattle.isa.specs.declared.Mode.the-variants.{Normal, Short}
+pub use Rattle.isa.specs.declared.Instruction.{Instruction}
+pub use Rattle.isa.specs.declared.Instruction.the-variants.{Nop, Ld, St, Add, Addi, Sub, Slt, Beq, Bne, Jmp, Jal}
+pub use Rattle.isa.specs.declared.Instruction.the-variants.{Jr, Jmps, Jals, Jrs, Jalr, Jalrs, Cpuid, Halt, And, Or}
+pub use Rattle.isa.specs.declared.Instruction.the-variants.{Xor, Sll, Srl, Sla, Sra, Sltu, Mul, Div, Mod, Mulh}
+pub use Rattle.isa.specs.declared.Instruction.the-variants.{Divu, Ldb, Ldh, Stb, Sth, Ldil, Ldih, Unknown, Iret}
+pub use Rattle.isa.specs.declared.Instruction.the-variants.{Syscall, Mfsr, Mtsr}
+pub use Rattle.isa.specs.declared.RawInstr.{RawInstr}
+pub use Rattle.isa.specs.declared.RawInstr.the-variants.{Normal as RawNormal, Short as RawShort}
+pub use Rattle.sheet.specs.declared.Record.{Record}
+pub use Rattle.sheet.specs.declared.Record.the-variants.{None as NoRecord, Line, Pair}
+pub use Rattle.sheet.specs.declared.End.{End}
+pub use Rattle.sheet.specs.declared.End.the-variants.{Halted, Spent, Refused as EndRefused, Loads}
+pub use Rattle.sheet.specs.declared.Turn.{Turn}
+pub use Rattle.sheet.specs.declared.Turn.the-variants.{Ends, Ticks}

@@ -1,0 +1,66 @@
+-- The step sheet: record k, five bytes, stands for addresses 4k to 4k + 3.
+use Prim.Native.Nat.{_%_, _*_, _+_, _/_, suc, zero, ℕ}
+use lib.Dec.{eqb, ltb}
+use lib.ListN.{getD, length}
+use mathlib.Core.Bool.{Bool, _||_, cond, not}
+use mathlib.Core.List.{List}
+use Rattle.isa.specs.Operands.{okOperands, operandsN}
+use Rattle.sheet.specs.Names.{Instruction, Line, Mode, NoRecord, Normal, Pair, RawInstr, RawNormal, RawShort}
+use Rattle.sheet.specs.Names.{Record, Short, Unknown}
+use Rattle.sheet.specs.Records.{recordOf}
+
+-- record k of a sheet's bytes; none outside it
+unfoldable pub recordAt : List ℕ → ℕ → Record
+recordAt l k =
+    cond (ltb (k * 5 + 4) (length l))
+    (recordOf (getD l (k * 5) 0) (getD l (k * 5 + 1) 0) (getD l (k * 5 + 2) 0) (getD l (k * 5 + 3) 0)
+    (getD l (k * 5 + 4) 0))
+    NoRecord
+
+-- what is offered outside the sheet, off an instruction's boundary, or where it is of the other mode
+unfoldable pub unknownOf : Mode → RawInstr
+unknownOf Normal = RawNormal (Unknown 0 0)
+unknownOf Short = RawShort 0xA000
+
+-- a Normal instruction stands at the first of its four bytes
+unfoldable pub lineOffer : Instruction → ℕ → Mode → RawInstr
+lineOffer i k Normal = cond (eqb k 0) (RawNormal i) (unknownOf Normal)
+lineOffer i k Short = unknownOf Short
+
+-- two halfwords stand at the first and the third
+unfoldable pub pairOffer : ℕ → ℕ → ℕ → Mode → RawInstr
+pairOffer h g k Normal = unknownOf Normal
+pairOffer h g k Short = cond (eqb k 0) (RawShort h) (cond (eqb k 2) (RawShort g) (unknownOf Short))
+
+-- what a record offers at byte k of its four
+unfoldable pub offerIn : Record → ℕ → Mode → RawInstr
+offerIn NoRecord k m = unknownOf m
+offerIn (Line i) k m = lineOffer i k m
+offerIn (Pair h g) k m = pairOffer h g k m
+
+-- what a sheet offers at address p in mode m
+unfoldable pub offerAt : List ℕ → ℕ → Mode → RawInstr
+offerAt l p m = offerIn (recordAt l (p / 4)) (p % 4) m
+
+-- per record 5: no such command, or an unused byte not zero; 1: a Normal register above 31; 2: MFSR
+unfoldable pub recordCode : Record → ℕ
+recordCode NoRecord = 5
+recordCode (Line i) = cond (okOperands (operandsN i)) (cond ((operandsN i) .«is_mfsr») 2 0) 1
+recordCode (Pair h g) = 0
+
+-- the code of record k
+unfoldable pub codeAt : List ℕ → ℕ → ℕ
+codeAt l k = recordCode (recordAt l k)
+
+-- the first code among n records from record k on
+unfoldable pub firstCode : List ℕ → ℕ → ℕ → ℕ
+firstCode l k zero = 0
+firstCode l k (suc n) = cond (ltb 0 (codeAt l k)) (codeAt l k) (firstCode l (suc k) n)
+
+-- 6: a length that is no multiple of 5, or above 20,480 bytes
+unfoldable pub badLength : ℕ → Bool
+badLength n = not (eqb (n % 5) 0) || ltb 20480 n
+
+-- the refusal of a whole sheet, 0 for none
+unfoldable pub sheetCode : List ℕ → ℕ
+sheetCode l = cond (badLength (length l)) 6 (firstCode l 0 (length l / 5))

@@ -1,0 +1,62 @@
+// The check of a whole sheet.
+ghost use mathlib.Core.Path.{_≡_};
+ghost use Rattle.sheet.specs.Sheet.{recordCode, firstCode, badLength, sheetCode};
+use crate::Record;
+use crate::offer::record_at;
+use isa::Decoded;
+
+impl Record {
+    // 5, 1 or 2: no such command or an unused byte not zero, a register above 31, MFSR.
+    fn code(self) -> u32
+        ensures { λ r. ⌜ r ≡ recordCode self ⌝ }
+    {
+        match self {
+            Record::None => 5,
+            Record::Line(i) => {
+                let d = Decoded::Normal(i);
+                let o = d.operands();
+                if o.in_bounds() {
+                    if o.is_mfsr {
+                        return 2;
+                    }
+                    return 0;
+                }
+                1
+            }
+            Record::Pair(_, _) => 0,
+        }
+    }
+}
+
+// The first code among so many records.
+fn first_code(sheet: &[u8], count: u32) -> u32
+    ensures { λ r. ⌜ r ≡ firstCode (now (sheet .entry)) 0 count ⌝ }
+{
+    let mut k: u32 = 0;
+    while k < count {
+        let c = record_at(sheet, k).code();
+        if 0 < c {
+            return c;
+        }
+        k += 1;
+    }
+    0
+}
+
+// 6: a length that is no multiple of 5, or above 20,480 bytes.
+fn bad_length(n: usize) -> bool
+    ensures { λ r. ⌜ r ≡ badLength n ⌝ }
+{
+    (n % 5 != 0) | (20480 < n)
+}
+
+// 6, then per record 5, 1, 2; 0 for a sheet that is none of these.
+pub fn check(sheet: &[u8]) -> u32
+    ensures { λ r. ⌜ r ≡ sheetCode (now (sheet .entry)) ⌝ }
+{
+    let n = sheet.len();
+    if bad_length(n) {
+        return 6;
+    }
+    first_code(sheet, (n / 5) as u32)
+}

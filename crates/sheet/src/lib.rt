@@ -1,0 +1,33 @@
+// The step sheet: records of five bytes, their check and what they offer a fetch; and the order of a run's turns.
+//
+// Wrong programs that the promises rule out, for each function two:
+// - check: 1 for a record with a register above 31 and an unused byte not zero; 20,485 bytes accepted.
+// - offer_at: the second halfword of a pair at its first address; a NOP outside the sheet.
+// - turn_by: spent before halted; loads before refused 12.
+pub mod check;
+pub mod offer;
+mod records;
+pub mod turns;
+
+use isa::Instruction;
+
+// A record: a Normal instruction, a pair of short halfwords, or neither.
+pub enum Record {
+    None,
+    Line(Instruction),
+    Pair(u16, u16),
+}
+
+// How a run ends.
+pub enum End {
+    Halted,
+    Spent,
+    Refused(u32),
+    Loads,
+}
+
+// What a turn of a run does.
+pub enum Turn {
+    Ends(End),
+    Ticks,
+}

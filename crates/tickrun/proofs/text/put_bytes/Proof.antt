@@ -1,0 +1,18 @@
+-- `tickrun::text::put_bytes` is safe and ends. Assumes nothing.
+use Prim.Native.Nat.{_-_}
+use borrow.Author.Needs.{needs}
+use lib.ListN.{length}
+use mathlib.Core.Path.{_≡_}
+use Rattle.tickrun.proofs.text.put_bytes.Statement.{statement}
+use Rattle.tickrun.proofs.text.put_bytes.Tie as tie
+
+abbrev Inv-loop : tie.InvT-loop
+Inv-loop out₀ at bytes to₀ i₀ out to i = length out ≡ length out₀
+
+abbrev μ-loop : tie.MeasureT-loop
+μ-loop out₀ at bytes to₀ i₀ out to i = length bytes - i
+
+pub put-bytes-spec : {M : Type 1} → statement M
+put-bytes-spec = tie.close (tie.spec Inv-loop μ-loop
+    (λ c. search needs) (λ c. search needs) (λ c κs. search needs) (λ c. search needs) (λ c. search needs)
+    (λ c. search needs) (λ c. search needs) (λ c. search needs))

@@ -1,0 +1,49 @@
+//! What an expected answer says came of its case.
+
+use super::feed::Expected;
+use crate::case::Case;
+use std::fmt::{Display, Formatter, Result};
+
+/// What came of a case.
+#[derive(Debug, Clone, Copy, PartialEq, Eq, PartialOrd, Ord)]
+pub enum Outcome {
+    Accepted,
+    Halted,
+    Spent,
+    Loads,
+    Refused(u32),
+}
+
+impl Outcome {
+    /// Reads it off an expected line, unless such a line does not tell.
+    pub fn of(expected: &Expected) -> Option<Self> {
+        if matches!(expected.case, Case::Start(_) | Case::ListShow) {
+            return None;
+        }
+        let line = std::str::from_utf8(&expected.line).ok()?;
+        let mut numbers = line
+            .split_whitespace()
+            .map_while(|word| u32::from_str_radix(word, 16).ok());
+        let first = numbers.next()?;
+        Some(match (&expected.case, first) {
+            (Case::Run(..), 0) => Outcome::Halted,
+            (Case::Run(..), 1) => Outcome::Spent,
+            (Case::Run(..), 2) => Outcome::Loads,
+            (Case::Run(..), _) => Outcome::Refused(numbers.next()?),
+            (_, 0) => Outcome::Accepted,
+            (_, code) => Outcome::Refused(code),
+        })
+    }
+}
+
+impl Display for Outcome {
+    fn fmt(&self, out: &mut Formatter<'_>) -> Result {
+        match self {
+            Outcome::Accepted => write!(out, "accepted"),
+            Outcome::Halted => write!(out, "halted"),
+            Outcome::Spent => write!(out, "spent"),
+            Outcome::Loads => write!(out, "loads"),
+            Outcome::Refused(number) => write!(out, "refused {number}"),
+        }
+    }
+}

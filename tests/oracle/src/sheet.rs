@@ -1,0 +1,21 @@
+//! The step sheet, by a reading of document 01 of the harness's own.
+
+mod command;
+mod offer;
+mod record;
+
+pub use command::{COMMANDS, PAIR, Shape, of as command};
+pub use offer::{offer, offer_of, record_at};
+pub use record::{Record, read, refuse, write};
+
+/// Bytes of a record, and of the addresses that it stands for.
+pub const RECORD_BYTES: usize = 5;
+pub const RECORD_ADDRESSES: u32 = 4;
+
+/// The longest sheet in bytes.
+pub const LONGEST: usize = 20_480;
+
+/// Tells whether the length of a sheet is refused.
+pub fn length_breaks(length: usize) -> bool {
+    !length.is_multiple_of(RECORD_BYTES) || length > LONGEST
+}
