@@ -1,4 +1,4 @@
--- Demand 3, proved. Assumes nothing.
+-- RULES 15.6, proved. Assumes nothing.
 use Prim.Native.Nat.{_+_, _<_, _≤_, suc, ℕ}
 use borrow.Author.Tests.{ltb-false, ltb-true}
 use lib.Dec.{ltb}
@@ -15,53 +15,57 @@ use Rattle.isa.specs.Short.{decodedOf}
 use Rattle.latch.specs.Latches.{emptyIfId, emptyMemWb}
 use Rattle.latch.specs.Memory.{loads, requests}
 use Rattle.latch.specs.Retire.{halts, isFaulty}
+use Rattle.pipeline.specs.Advance.{advance, awake, next, resting}
+use Rattle.pipeline.specs.Ask.{asks, fetchAt, loadsIn, wantFetch, wantLoad}
+use Rattle.pipeline.specs.Counting.{countIdle, countRetired}
+use Rattle.pipeline.specs.Fetch.{fetchPlace, fetches}
+use Rattle.pipeline.specs.Move.{moveOf}
+use Rattle.pipeline.specs.Refusals.{faulty}
+use Rattle.pipeline.specs.Retire.{retire, retireStages}
+use Rattle.pipeline.specs.Start.{fresh}
+use Rattle.pipeline.specs.Tick.{Result, moved, rawOf, refused, taken, tick, wordIn}
+use Rattle.word.specs.Words.{bit}
 use Rattle.accuracy.proofs.Feeding.{Fed, Feeds, FeedsBy, fed-whole}
 use Rattle.accuracy.proofs.Instructions.{okIn}
 use Rattle.accuracy.proofs.Inv.{Live, Mw, PlaceIs, Xm, count-mw, f0, isa-mw, next-live, place-mw, regs-mw}
 use Rattle.accuracy.proofs.Inv.{retire-live}
+use Rattle.accuracy.proofs.Offers.{AllMeet, Meets, all-meet}
 use Rattle.accuracy.proofs.Path.{due}
 use Rattle.accuracy.proofs.Timing.{bound, due-time, time-path}
 use Rattle.accuracy.proofs.Took.{Took, advance-regs, advance-retire-mode, advance-retire-pc, advance-retired}
 use Rattle.accuracy.proofs.Took.{advance-running, offer-is, offer-ok, retire-off, took}
-use Rattle.accuracy.specs.Accuracy.{Demand3, Meets, Offers, Retires, Run, after, answers, arch, archWith}
-use Rattle.accuracy.specs.Accuracy.{begin, one, oneBy}
-use Rattle.pipeline.specs.Advance.{Taken, advance, awake, idle, next, resting}
-use Rattle.pipeline.specs.Ask.{asks, fetchAt, stuck, wantFetch, wantLoad}
-use Rattle.pipeline.specs.Fetch.{fetchPlace, fetches}
-use Rattle.pipeline.specs.Move.{move}
-use Rattle.accuracy.specs.Names.{Given, MemWb, Mode, Move, PipelineCpu, RawInstr, Request}
-use Rattle.pipeline.specs.Retire.{retire}
-use Rattle.pipeline.specs.Start.{fresh}
-use Rattle.pipeline.specs.Tick.{Result, moved, rawOf, refused, taken, tick, wordIn}
-use Rattle.word.specs.Words.{bit}
+use Rattle.accuracy.specs.Accuracy.{Demand3, Demand3For, Retires, Run, after, answers, archWith, begin}
+use Rattle.accuracy.specs.Accuracy.{firstOffer, offered, one, oneBy, wholeProgram}
+use Rattle.accuracy.specs.Names.{Given, MemWb, Mode, Move, PipelineCpu, RawInstr, Request, Taken}
 
 module _ (prog : Program) (w₀ : Arch) (len : length (w₀ .reg) ≡ 32) (nought : getD (w₀ .reg) 0 0 ≡ 0) where
   pub data Inv (r : Run) (left : List ℕ) (k : ℕ) : Type 0 where
     live : (n₁ n₂ t : ℕ) → Live prog w₀ (r .state) t (r .requests) left k n₁ n₂ → r .accepted ≡ t → Inv r left k
-    over : r .state .running ≡ false → r .state .«instructions_executed» ≡ k → Inv r left k
+    over : r .state .stages .running ≡ false → r .state .counts .«instructions_executed» ≡ k → Inv r left k
 
   -- a tick in which instruction k retires
   pub record Now (r r′ : Run) (k : ℕ) : Type 0 where
-    pub before : r .state .«instructions_executed» ≡ k
-    pub now : r′ .state .«instructions_executed» ≡ suc k
+    pub before : r .state .counts .«instructions_executed» ≡ k
+    pub now : r′ .state .counts .«instructions_executed» ≡ suc k
     pub at : r′ .accepted ≡ due prog w₀ k
     pub reg : r′ .state .reg ≡ (machine prog w₀ (suc k)) .arch .reg
     pub requests : r .requests ≡ (machine prog w₀ (suc k)) .arch .requests
     pub runs : (machine prog w₀ k) .runs ≡ true
     pub did : (machine prog w₀ (suc k)) .done ≡ suc k
     pub place : PlaceIs prog w₀ (r′ .state) ((machine prog w₀ (suc k)) .arch)
-    pub still : (machine prog w₀ (suc k)) .runs ≡ r′ .state .running
+    pub still : (machine prog w₀ (suc k)) .runs ≡ r′ .state .stages .running
 
   pub data Step (r r′ : Run) (left : List ℕ) (k : ℕ) : Type 0 where
-    quiet : Inv r′ left k → (r .state .running ≡ true → r′ .state .running ≡ true) → Step r r′ left k
+    quiet : Inv r′ left k → (r .state .stages .running ≡ true → r′ .state .stages .running ≡ true) → Step r r′ left k
     committed : Now r r′ k → Inv r′ left (suc k) → Step r r′ left k
 
   finish : (r r′ : Run) (left : List ℕ) (l : MemWb) (t k n₁ : ℕ) → Mw prog w₀ t l k n₁
-      → r .state .«instructions_executed» ≡ k → r′ .state .«instructions_executed» ≡ n₁ → r′ .accepted ≡ suc t
+      → r .state .counts .«instructions_executed» ≡ k → r′ .state .counts .«instructions_executed» ≡ n₁
+      → r′ .accepted ≡ suc t
       → r′ .state .reg ≡ (walk prog w₀ n₁) .reg → PlaceIs prog w₀ (r′ .state) (walk prog w₀ n₁)
       → r .requests ≡ (walk prog w₀ n₁) .requests → (machine prog w₀ n₁) .arch ≡ walk prog w₀ n₁
       → (machine prog w₀ n₁) .done ≡ n₁ → (machine prog w₀ k) .runs ≡ true
-      → (machine prog w₀ n₁) .runs ≡ r′ .state .running → (halts l ≡ false → r′ .state .running ≡ true)
+      → (machine prog w₀ n₁) .runs ≡ r′ .state .stages .running → (halts l ≡ false → r′ .state .stages .running ≡ true)
       → Inv r′ left n₁ → Step r r′ left k
   unfolding halts emptyMemWb
   finish r r′ left l t k n₁ (Mw.gap e) p1 p2 p3 p4 pp p5 p6 p8 p7 p9 p10 i = quiet i (λ z. p10 (rw e))
@@ -88,7 +92,7 @@ module _ (prog : Program) (w₀ : Arch) (len : length (w₀ .reg) ≡ 32) (nough
   -- an accepted tick of a running machine
   module _ (r : Run) (t : Given) (s′ : PipelineCpu) (left left′ : List ℕ) (k n₁ n₂ t₀ : ℕ)
       (lv : Live prog w₀ (r .state) t₀ (r .requests) left k n₁ n₂) (clock : r .accepted ≡ t₀)
-      (aw : awake (r .state) ≡ true) (tk : Took (r .state) t s′)
+      (aw : awake ((r .state) .stages) ≡ true) (tk : Took (r .state) t s′)
       (off : Meets prog (r .state) t)
       (lft : Feeds prog (r .state) t left left′) where
     abbrev s₁ : PipelineCpu
@@ -104,91 +108,97 @@ module _ (prog : Program) (w₀ : Arch) (len : length (w₀ .reg) ≡ 32) (nough
     x₁ = taken t
 
     abbrev r₁ : Run
-    r₁ = record { state = s′; accepted = suc (r .accepted); requests = r .requests ++ asks (r .state) }
+    r₁ = record { state = s′; accepted = suc (r .accepted); requests = r .requests ++ asks ((r .state) .stages) }
 
-    no-fault : isFaulty ((r .state) .«mem_wb») ≡ false
-    unfolding stuck
-    no-fault = sym (ap (λ (b : Bool). b && isFaulty ((r .state) .«mem_wb»)) aw) ∙ tk .sound
+    no-fault : isFaulty ((r .state) .stages .«mem_wb») ≡ false
+    unfolding faulty
+    no-fault = sym (ap (λ (b : Bool). b && isFaulty ((r .state) .stages .«mem_wb»)) aw) ∙ tk .sound
 
-    went : advance (move s₁) s₁ x₁ ≡ s′
+    went : advance (moveOf s₁) s₁ x₁ ≡ s′
     unfolding next
-    went = sym (ap (λ (b : Bool). cond b (advance (move s₁) s₁ x₁) (resting (r .state))) aw) ∙ tk .is
+    went = sym (ap (λ (b : Bool). cond b (advance (moveOf s₁) s₁ x₁) (resting (r .state))) aw) ∙ tk .is
 
-    count₁ : s₁ .«instructions_executed» ≡ n₁
-    unfolding retire
-    count₁ = ap (λ (x : ℕ). x + bit ((r .state) .«mem_wb» .valid)) (lv .count) ∙ count-mw prog w₀ len nought
-        ((r .state) .«mem_wb») t₀ k n₁ (lv .«mem_wb»)
+    count₁ : s₁ .counts .«instructions_executed» ≡ n₁
+    unfolding retire retireStages countRetired
+    count₁ = ap (λ (x : ℕ). x + bit ((r .state) .stages .«mem_wb» .valid)) (lv .count) ∙ count-mw prog w₀ len nought
+        ((r .state) .stages .«mem_wb») t₀ k n₁ (lv .«mem_wb»)
 
     regs₁ : s₁ .reg ≡ (walk prog w₀ n₁) .reg
-    unfolding retire
-    regs₁ = rw (lv .features, lv .reg) (regs-mw prog w₀ len nought ((r .state) .«mem_wb») t₀ k n₁ (lv .«mem_wb»))
+    unfolding retire retireStages countRetired
+    regs₁ = rw (lv .features, lv .reg)
+        (regs-mw prog w₀ len nought ((r .state) .stages .«mem_wb») t₀ k n₁ (lv .«mem_wb»))
 
     isa₁ : machine prog w₀ n₁ ≡ record {
       arch = walk prog w₀ n₁;
-      runs = not (halts ((r .state) .«mem_wb»));
+      runs = not (halts ((r .state) .stages .«mem_wb»));
       done =
           n₁;
     }
-    isa₁ = isa-mw prog w₀ len nought ((r .state) .«mem_wb») t₀ k n₁ (lv .«mem_wb») no-fault (lv .runs)
+    isa₁ = isa-mw prog w₀ len nought ((r .state) .stages .«mem_wb») t₀ k n₁ (lv .«mem_wb») no-fault (lv .runs)
 
     place₁ : PlaceIs prog w₀ s₁ (walk prog w₀ n₁)
-    unfolding retire
+    unfolding retire retireStages countRetired
     place₁ = (
-      rw ((lv .place) .0) ((place-mw prog w₀ len nought ((r .state) .«mem_wb») t₀ k n₁ (lv .«mem_wb»)) .0),
-      rw ((lv .place) .1) ((place-mw prog w₀ len nought ((r .state) .«mem_wb») t₀ k n₁ (lv .«mem_wb»)) .1),
+      rw ((lv .place) .0) ((place-mw prog w₀ len nought ((r .state) .stages .«mem_wb») t₀ k n₁ (lv .«mem_wb»)) .0),
+      rw ((lv .place) .1) ((place-mw prog w₀ len nought ((r .state) .stages .«mem_wb») t₀ k n₁ (lv .«mem_wb»)) .1),
     )
 
-    run₁ : s′ .running ≡ not (halts ((r .state) .«mem_wb»))
-    unfolding retire
-    run₁ = ap (λ (x : PipelineCpu). x .running) (sym went) ∙ advance-running (move s₁) s₁ x₁
-        ∙ split (halts ((r .state) .«mem_wb»)) (λ h. rw h) (λ h. rw h (lv .running))
+    run₁ : s′ .stages .running ≡ not (halts ((r .state) .stages .«mem_wb»))
+    unfolding retire retireStages countRetired
+    run₁ = ap (λ (x : PipelineCpu). x .stages .running) (sym went) ∙ advance-running (moveOf s₁) s₁ x₁
+        ∙ split (halts ((r .state) .stages .«mem_wb»)) (λ h. rw h) (λ h. rw h (lv .running))
 
     done : Inv r₁ left′ n₁ → Step r r₁ left′ k
-    done i = finish r r₁ left′ ((r .state) .«mem_wb») t₀ k n₁ (lv .«mem_wb») (lv .count)
-        (ap (λ (x : PipelineCpu). x .«instructions_executed») (sym went) ∙ advance-retired (move s₁) s₁ x₁ ∙ count₁)
+    done i = finish r r₁ left′ ((r .state) .stages .«mem_wb») t₀ k n₁ (lv .«mem_wb») (lv .count)
+        (ap (λ (x : PipelineCpu). x .counts .«instructions_executed») (sym went) ∙ advance-retired (moveOf s₁) s₁ x₁
+        ∙ count₁)
         (ap suc clock)
-        (ap (λ (x : PipelineCpu). x .reg) (sym went) ∙ advance-regs (move s₁) s₁ x₁ ∙ regs₁) (
-          ap (λ (x : PipelineCpu). x .«retire_pc») (sym went) ∙ advance-retire-pc (move s₁) s₁ x₁ ∙ place₁ .0,
-          ap (λ (x : PipelineCpu). x .«retire_mode») (sym went) ∙ advance-retire-mode (move s₁) s₁ x₁ ∙ place₁ .1,
+        (ap (λ (x : PipelineCpu). x .reg) (sym went) ∙ advance-regs (moveOf s₁) s₁ x₁ ∙ regs₁) (
+          ap (λ (x : PipelineCpu). x .stages .«retire_at» .pc) (sym went) ∙ advance-retire-pc (moveOf s₁) s₁ x₁
+              ∙ place₁ .0,
+          ap (λ (x : PipelineCpu). x .stages .«retire_at» .mode) (sym went) ∙ advance-retire-mode (moveOf s₁) s₁ x₁
+              ∙ place₁ .1,
         )
         (lv .asks) (ap (λ (x : Machine). x .arch) isa₁) (ap (λ (x : Machine). x .done) isa₁)
         (ap (λ (x : Machine). x .runs) (lv .runs))
         (ap (λ (x : Machine). x .runs) isa₁ ∙ sym run₁) (λ h. run₁ ∙ rw h) i
 
-    want-load : (b : Bool) → (s₁ .«ex_mem» .valid && loads (s₁ .«ex_mem»)) ≡ b → wantLoad (r .state) ≡ b
-    unfolding wantLoad
-    want-load b e = ap (λ (c : Bool). c && (s₁ .«ex_mem» .valid && loads (s₁ .«ex_mem»))) aw ∙ e
+    want-load : (b : Bool) → (s₁ .stages .«ex_mem» .valid && loads (s₁ .stages .«ex_mem»)) ≡ b
+        → wantLoad ((r .state) .stages) ≡ b
+    unfolding wantLoad loadsIn retire
+    want-load b e = ap (λ (c : Bool). c && (s₁ .stages .«ex_mem» .valid && loads (s₁ .stages .«ex_mem»))) aw ∙ e
 
-    hv : (s₁ .«ex_mem» .valid && loads (s₁ .«ex_mem»)) ≡ true
-        → (isEmpty left ≡ false) × (prog .take (s₁ .«ex_mem» .«mem_size») (first left) ≡ v₁)
+    hv : (s₁ .stages .«ex_mem» .valid && loads (s₁ .stages .«ex_mem»)) ≡ true
+        → (isEmpty left ≡ false) × (prog .take (s₁ .stages .«ex_mem» .«mem_size») (first left) ≡ v₁)
     hv e = lft .asked (want-load true e)
 
-    left-on : cond (s₁ .«ex_mem» .valid && loads (s₁ .«ex_mem»)) (rest left) left ≡ left′
+    left-on : cond (s₁ .stages .«ex_mem» .valid && loads (s₁ .stages .«ex_mem»)) (rest left) left ≡ left′
     left-on = sym (lft .next ∙ ap (λ (b : Bool). cond b (rest left) left)
-        (want-load (s₁ .«ex_mem» .valid && loads (s₁ .«ex_mem»)) refl))
+        (want-load (s₁ .stages .«ex_mem» .valid && loads (s₁ .stages .«ex_mem»)) refl))
 
-    hi : s₁ .running ≡ true → (m : Move) → move s₁ ≡ m → fetches m ≡ true →
-        (decodedOf i₁ ≡ prog .instruction ((fetchPlace m s₁) .0) ((fetchPlace m s₁) .1)) ×
-        (okIn (decodedOf i₁) ((fetchPlace m s₁) .1) ≡ true)
+    hi : s₁ .stages .running ≡ true → (m : Move) → moveOf s₁ ≡ m → fetches m ≡ true →
+        (decodedOf i₁ ≡ prog .instruction ((fetchPlace m (s₁ .stages)) .pc) ((fetchPlace m (s₁ .stages)) .mode)) ×
+        (okIn (decodedOf i₁) ((fetchPlace m (s₁ .stages)) .mode) ≡ true)
     unfolding wantFetch fetchAt taken
     hi ru m e w =
         let wf : wantFetch (r .state) ≡ true = all3 _ _ _ aw ru (ap fetches e ∙ w) in
-        let o = offer-is (t .offer) (wantFetch (r .state)) ((fetchAt (r .state)) .1) (tk .fetch) wf in (
-          off .offer i₁ o ∙ ap (λ (x : Move). prog .instruction ((fetchPlace x s₁) .0) ((fetchPlace x s₁) .1)) e,
-          ap (λ (x : Move). okIn (decodedOf i₁) ((fetchPlace x s₁) .1)) (sym e) ∙ offer-ok (t .offer)
-              (wantFetch (r .state)) ((fetchAt (r .state)) .1) (tk .fetch) wf (tk .fair),
+        let o = offer-is (t .offer) (wantFetch (r .state)) ((fetchAt (r .state)) .mode) (tk .fetch) wf in (
+          off .offer i₁ o ∙ ap (λ (x : Move). prog .instruction ((fetchPlace x (s₁ .stages)) .pc)
+              ((fetchPlace x (s₁ .stages)) .mode)) e,
+          ap (λ (x : Move). okIn (decodedOf i₁) ((fetchPlace x (s₁ .stages)) .mode)) (sym e) ∙ offer-ok (t .offer)
+              (wantFetch (r .state)) ((fetchAt (r .state)) .mode) (tk .fetch) wf (tk .fair),
         )
 
-    asks₁ : asks (r .state) ≡ requests (s₁ .«ex_mem»)
-    unfolding asks
-    asks₁ = ap (λ (b : Bool). cond b (requests (s₁ .«ex_mem»)) []) aw
+    asks₁ : asks ((r .state) .stages) ≡ requests (s₁ .stages .«ex_mem»)
+    unfolding asks retire
+    asks₁ = ap (λ (b : Bool). cond b (requests (s₁ .stages .«ex_mem»)) []) aw
 
     accepted : Step r r₁ left′ k
     unfolding taken
-    accepted = split (halts ((r .state) .«mem_wb»))
-        (λ h. done (over (ap (λ (x : PipelineCpu). x .running) (sym went) ∙ advance-running (move s₁) s₁ x₁ ∙
+    accepted = split (halts ((r .state) .stages .«mem_wb»))
+        (λ h. done (over (ap (λ (x : PipelineCpu). x .stages .running) (sym went) ∙ advance-running (moveOf s₁) s₁ x₁ ∙
         retire-off (r .state) h)
-        (ap (λ (x : PipelineCpu). x .«instructions_executed») (sym went) ∙ advance-retired (move s₁) s₁ x₁ ∙
+        (ap (λ (x : PipelineCpu). x .counts .«instructions_executed») (sym went) ∙ advance-retired (moveOf s₁) s₁ x₁ ∙
         count₁)))
         (λ h.
         let mid = retire-live prog w₀ len nought (r .state) t₀ (r .requests) left k n₁ n₂ lv no-fault h in
@@ -197,34 +207,34 @@ module _ (prog : Program) (w₀ : Arch) (len : length (w₀ .reg) ≡ 32) (nough
         (ap suc clock)))
 
   -- an accepted tick of a machine that has stopped
-  go-rest : (s : PipelineCpu) (x : Taken) → awake s ≡ false → next s x ≡ resting s
+  go-rest : (s : PipelineCpu) (x : Taken) → awake (s .stages) ≡ false → next s x ≡ resting s
   unfolding next
-  go-rest s x e = ap (λ (b : Bool). cond b (advance (move (retire s)) (retire s) x) (resting s)) e
+  go-rest s x e = ap (λ (b : Bool). cond b (advance (moveOf (retire s)) (retire s) x) (resting s)) e
 
-  rest-running : (s : PipelineCpu) → (resting s) .running ≡ s .running
-  unfolding resting idle
+  rest-running : (s : PipelineCpu) → (resting s) .stages .running ≡ s .stages .running
+  unfolding resting countIdle
   rest-running s = refl
 
-  rest-retired : (s : PipelineCpu) → (resting s) .«instructions_executed» ≡ s .«instructions_executed»
-  unfolding resting idle
+  rest-retired : (s : PipelineCpu) → (resting s) .counts .«instructions_executed» ≡ s .counts .«instructions_executed»
+  unfolding resting countIdle
   rest-retired s = refl
 
-  live-awake : (s : PipelineCpu) → s .running ≡ true → awake s ≡ true
+  live-awake : (s : PipelineCpu) → s .stages .running ≡ true → awake (s .stages) ≡ true
   unfolding awake
   live-awake s e = e
 
-  over-awake : (s : PipelineCpu) → s .running ≡ false → awake s ≡ false
+  over-awake : (s : PipelineCpu) → s .stages .running ≡ false → awake (s .stages) ≡ false
   unfolding awake
   over-awake s e = e
 
-  idle-over : (r : Run) (t : Given) (s′ : PipelineCpu) (left : List ℕ) (k : ℕ) → r .state .running ≡ false →
-      r .state .«instructions_executed» ≡ k → Took (r .state) t s′
+  idle-over : (r : Run) (t : Given) (s′ : PipelineCpu) (left : List ℕ) (k : ℕ) → r .state .stages .running ≡ false →
+      r .state .counts .«instructions_executed» ≡ k → Took (r .state) t s′
       → Inv (oneBy (moved s′) t r) left k
   unfolding oneBy
   idle-over r t s′ left k e c tk =
       let h : resting (r .state) ≡ s′ = sym (go-rest (r .state) (taken t) (over-awake (r .state) e)) ∙ tk .is in
-      over (ap (λ (x : PipelineCpu). x .running) (sym h) ∙ rest-running (r .state) ∙ e)
-      (ap (λ (x : PipelineCpu). x .«instructions_executed») (sym h) ∙ rest-retired (r .state) ∙ c)
+      over (ap (λ (x : PipelineCpu). x .stages .running) (sym h) ∙ rest-running (r .state) ∙ e)
+      (ap (λ (x : PipelineCpu). x .counts .«instructions_executed») (sym h) ∙ rest-retired (r .state) ∙ c)
 
   -- a tick
   pub step-by : (r : Run) (t : Given) (o : Result) → tick (r .state) t ≡ o → (left left′ : List ℕ) (k : ℕ) → Inv r
@@ -277,14 +287,14 @@ module _ (prog : Program) (w₀ : Arch) (len : length (w₀ .reg) ≡ 32) (nough
     place = x .place;
   })
 
-  pub inv-count : (r : Run) (left : List ℕ) (k : ℕ) → Inv r left k → r .state .«instructions_executed» ≡ k
+  pub inv-count : (r : Run) (left : List ℕ) (k : ℕ) → Inv r left k → r .state .counts .«instructions_executed» ≡ k
   inv-count r left k (live n₁ n₂ t lv c) = lv .count
   inv-count r left k (over a b) = b
 
-  pub all : (ts : List Given) (r : Run) (k : ℕ) (left : List ℕ) → Inv r left k → Offers prog r ts → Fed prog r left
+  pub all : (ts : List Given) (r : Run) (k : ℕ) (left : List ℕ) → Inv r left k → AllMeet prog r ts → Fed prog r left
       ts
-      → (N : ℕ) → k < N → N ≤ (after r ts) .state .«instructions_executed» → Retires prog w₀ r ts N
-  unfolding after Offers one Fed
+      → (N : ℕ) → k < N → N ≤ (after r ts) .state .counts .«instructions_executed» → Retires prog w₀ r ts N
+  unfolding after AllMeet one Fed
   all [] r k left i off fe N l h = let c = inv-count r _ k i in absurd (omega arith)
   all (t ∷ ts) r k left i off fe N l h =
       by (step-by r t (tick (r .state) t) refl left (fe .0) k i (off .0) (fe .1)) (λ j z. all ts (one r t) j (fe .0)
@@ -293,7 +303,7 @@ module _ (prog : Program) (w₀ : Arch) (len : length (w₀ .reg) ≡ 32) (nough
     where
       by : Step r (one r t) (fe .0) k
           → ((j : ℕ) → Inv (one r t) (fe .0) j → (M : ℕ) → j < M → M ≤
-          (after (one r t) ts) .state .«instructions_executed» → Retires prog w₀ (one r t) ts M)
+          (after (one r t) ts) .state .counts .«instructions_executed» → Retires prog w₀ (one r t) ts M)
           → Retires prog w₀ r (t ∷ ts) N
       by (quiet j z) ih = put-before r t ts N (ih k j N l h)
       by (committed x j) ih = split (ltb (suc k) N)
@@ -324,18 +334,28 @@ start-live prog regs pc mode l = record {
 -- the machine fed any list that the ticks feed it, whatever it makes of an answer
 pub demand3-fed : (prog : Program) (regs : List ℕ) (pc : ℕ) (mode : Mode) → length regs ≡ 32 → (ts : List Given)
     (l : List ℕ)
-    → Offers prog (begin prog regs pc mode) ts → Fed prog (begin prog regs pc mode) l ts
-    → (N : ℕ) → 1 ≤ N → N ≤ (after (begin prog regs pc mode) ts) .state .«instructions_executed»
-    → Retires prog (archWith regs pc mode l) (begin prog regs pc mode) ts N
+    → AllMeet prog (begin regs pc mode (prog .user) (prog .features)) ts
+    → Fed prog (begin regs pc mode (prog .user) (prog .features)) l ts
+    → (N : ℕ) → 1 ≤ N → N ≤ (after (begin regs pc mode (prog .user) (prog .features))
+    ts) .state .counts .«instructions_executed»
+    → Retires prog (archWith regs pc mode l) (begin regs pc mode (prog .user) (prog .features)) ts N
 unfolding begin archWith
 demand3-fed prog regs pc mode len ts l off fe N one≤ le =
     all prog (archWith regs pc mode l) (length-set regs 0 0 ∙ len) (getD-set-same regs 0 0 0 (omega arith)) ts
-    (begin prog regs pc mode) 0 l
+    (begin regs pc mode (prog .user) (prog .features)) 0 l
     (live 0 0 0 (start-live prog regs pc mode l) refl) off fe N one≤ le
 
+-- the machine that takes the list's answers whole
+pub demand3-for : Demand3For
+demand3-for f regs pc mode user features ts len a N one≤ le =
+    let prog = wholeProgram user features f in
+    let r = begin regs pc mode user features in
+    subst (λ (l : List ℕ). Retires prog (archWith regs pc mode l) r ts N) (append-nil _)
+    (demand3-fed prog regs pc mode len ts (answers r ts ++ []) (all-meet prog ts r a)
+    (fed-whole prog (λ w v. refl) ts r [])
+    N one≤ le)
+
 pub demand3 : Demand3
-unfolding arch
-demand3 prog regs pc mode whole len ts off N one≤ le =
-    subst (λ (l : List ℕ). Retires prog (archWith regs pc mode l) (begin prog regs pc mode) ts N) (append-nil _)
-    (demand3-fed prog regs pc mode len ts (answers (begin prog regs pc mode) ts ++ []) off
-    (fed-whole prog whole ts (begin prog regs pc mode) []) N one≤ le)
+demand3 regs pc mode user features ts len a N one≤ le =
+    demand3-for (firstOffer (offered (begin regs pc mode user features) ts)) regs pc mode user features ts len a N one≤
+    le

@@ -1,4 +1,4 @@
--- The forwarding law as document 01 words it. Assumes nothing.
+-- The forwarding law, RULES 5.4. Assumes nothing.
 use Prim.Native.Nat.{ℕ}
 use lib.ListN.{length}
 use mathlib.Core.Bool.{false, true}
@@ -8,22 +8,25 @@ use Rattle.isa.proofs.Bools.{split}
 use Rattle.isa.specs.Operands.{okDest}
 use Rattle.isa.specs.Registers.{readReg}
 use Rattle.latch.specs.Latches.{emptyMemWb}
-use Rattle.latch.specs.Memory.{destAfter, loads, memWbOf, stores, valueAfter, writesAfter}
+use Rattle.latch.specs.Memory.{destAfter, loads, memWbOf, passedOn, stores, valueAfter, writesAfter}
 use Rattle.latch.specs.Retire.{retiredRegs}
-use Rattle.accuracy.proofs.Registers.{fwd-law, xmRegs}
 use Rattle.pipeline.specs.Forwarding.{forwarded}
-use Rattle.accuracy.specs.Names.{ExMem, PipelineCpu}
+use Rattle.pipeline.specs.Start.{fresh}
+use Rattle.accuracy.proofs.Registers.{fwd-law, xmRegs}
+use Rattle.accuracy.specs.Names.{ExMem, Normal, PipelineCpu, Stages}
 
--- forwarding, as document 01 says it: the register's value after MEM/WB's and then EX/MEM's writes, in retirement's
+-- forwarding, RULES 5.4: the register's value after MEM/WB's and then EX/MEM's writes, in retirement's
 -- own words
 xm-writes : (l : ExMem) (v f : ℕ) (rs : List ℕ) → l .«is_load» ≡ false → l .«is_store» ≡ false → xmRegs l f rs ≡
     retiredRegs (memWbOf l v) f rs
-unfolding xmRegs retiredRegs memWbOf destAfter writesAfter valueAfter loads stores emptyMemWb
+unfolding xmRegs retiredRegs memWbOf passedOn destAfter writesAfter valueAfter loads stores emptyMemWb
 xm-writes l v f rs a b = split (l .valid) (λ e. rw (e, a, b)) (λ e. rw e)
 
-pub fwd-writes : (s : PipelineCpu) (r v : ℕ) → okDest (s .«mem_wb» .dest) ≡ true → okDest (s .«ex_mem» .dest) ≡ true
-    → length (s .reg) ≡ 32 → s .«ex_mem» .«is_load» ≡ false → s .«ex_mem» .«is_store» ≡ false
-    → forwarded s r ≡ readReg (retiredRegs (memWbOf (s .«ex_mem») v) (s .features)
-    (retiredRegs (s .«mem_wb») (s .features) (s .reg))) r
-fwd-writes s r v a b n l t = fwd-law s r a b n l ∙ ap (λ (x : List ℕ). readReg x r)
-    (xm-writes (s .«ex_mem») v (s .features) _ l t)
+pub fwd-writes : (l : Stages) (rs : List ℕ) (r v : ℕ) → okDest (l .«mem_wb» .dest) ≡ true
+    → okDest (l .«ex_mem» .dest) ≡ true → length rs ≡ 32 → l .«ex_mem» .«is_load» ≡ false
+    → l .«ex_mem» .«is_store» ≡ false
+    → forwarded l rs r
+    ≡ readReg (retiredRegs (memWbOf (l .«ex_mem») v) (l .features) (retiredRegs (l .«mem_wb») (l .features) rs)) r
+fwd-writes l rs r v a b n e t =
+    let s : PipelineCpu = record { reg = rs; stages = l; counts = (fresh rs 0 Normal false 0) .counts } in
+    fwd-law s r a b n e ∙ ap (λ (x : List ℕ). readReg x r) (xm-writes (l .«ex_mem») v (l .features) _ e t)

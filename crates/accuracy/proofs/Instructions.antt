@@ -7,22 +7,23 @@ use mathlib.Core.Bool.{Bool, _&&_, _||_, cond, false, false≢true, not, true}
 use mathlib.Core.Path.{_∙_, _≡_, refl, subst, sym}
 use native.Mathlib.Omega.{arith}
 use Rattle.isa.proofs.Bools.{and-3, and-r, nor, or-l, or-r, split, un-not}
-use Rattle.isa.specs.Effect.{branches, calm, effectN, effectOf, effectS, fall, gives, jumps, links, nothing}
-use Rattle.isa.specs.Effect.{privileged, raises, reaches, sets}
+use Rattle.isa.specs.Effect.{branches, effectN, effectOf, effectS, fall, gives, goesBy, goesOn, identifies, jumps}
+use Rattle.isa.specs.Effect.{links, marked, noAccess, noMarks, noResult, nothing, privileged, raises, reaches, resumes}
+use Rattle.isa.specs.Effect.{sets, stops, written}
 use Rattle.isa.specs.Operands.{bare, binary, branching, gpr, loading, okDest, okOperands, operandsN, operandsOf}
 use Rattle.isa.specs.Operands.{operandsS, plain, reads, special, storing, unary, writes}
 use Rattle.isa.specs.Redirects.{isException, isTo, modeOr, newModeOr, targetOr}
 use Rattle.isa.specs.Registers.{isNamed}
-use Rattle.isa.specs.Waits.{isDiv, isMul, isNegative, predict, predictBy, waits, waitsBy}
+use Rattle.isa.specs.Waits.{isDiv, isMul, isNegative, predict, predictBy, waits}
 use Rattle.latch.specs.Bounds.{badWidth}
 use Rattle.latch.specs.Execute.{mispredict}
-use Rattle.accuracy.specs.Names.{Add, Addi, And, Beq, Bne, Cpuid, DecNormal, DecShort, Decoded, Div, Divu}
-use Rattle.accuracy.specs.Names.{Effect, Halt, Instruction, Iret, Jal, Jalr, Jalrs, Jals, Jmp, Jmps, Jr, Jrs}
-use Rattle.accuracy.specs.Names.{Keep, Ld, Ldb, Ldh, Ldih, Ldil, Mfsr, Mod, Mode, Mtsr, Mul, Mulh, NewMode}
-use Rattle.accuracy.specs.Names.{Next, Nop, Normal, Operands, Or, Redirect, Short, ShortInstruction, Sla, Sll}
-use Rattle.accuracy.specs.Names.{Slt, Sltu, Sra, Srl, St, Stb, Sth, Sub, Syscall, To, ToMode, Unknown, Xor}
-use Rattle.accuracy.specs.Names.{sAdd, sAddi, sBnz, sBz, sJal, sJr, sLd, sLdi, sMov, sRet, sSt, sUnknown}
 use Rattle.word.specs.Words.{bit, offset32, wordOf}
+use Rattle.accuracy.specs.Names.{Add, Addi, And, Beq, Bne, Cpuid, DecNormal, DecShort, Decoded, Div, Divu, Effect}
+use Rattle.accuracy.specs.Names.{Halt, Instruction, Iret, Jal, Jalr, Jalrs, Jals, Jmp, Jmps, Jr, Jrs, Keep, Ld}
+use Rattle.accuracy.specs.Names.{Ldb, Ldh, Ldih, Ldil, Mfsr, Mod, Mode, Mtsr, Mul, Mulh, NewMode, Next, Nop}
+use Rattle.accuracy.specs.Names.{Normal, Operands, Or, Redirect, Short, ShortInstruction, Sla, Sll, Slt, Sltu}
+use Rattle.accuracy.specs.Names.{Sra, Srl, St, Stb, Sth, Sub, Syscall, To, ToMode, Unknown, Xor, sAdd, sAddi}
+use Rattle.accuracy.specs.Names.{sBnz, sBz, sJal, sJr, sLd, sLdi, sMov, sRet, sSt, sUnknown}
 
 pub go-cases : {C : Type 0} (g : Redirect) → (g ≡ Next → C) → ((p : ℕ) (m : Mode) → g ≡ To p m → C) → C
 go-cases Next h k = h refl
@@ -33,11 +34,12 @@ unfoldable pub oddLoad : Bool → Bool → Operands → Effect → Redirect → 
 oddLoad u v o e g = o .«is_load» &&
     ((u || v) ||
     ((isTo (e .redirect) || isTo g) ||
-    ((o .«is_store» || e .cpuid) || ((isException (e .exception) || eqb (e .«mem_size») 0) || not (e .writes)))))
+    ((o .«is_store» || e .marks .cpuid) ||
+    ((isException (e .marks .exception) || eqb (e .access .«mem_size») 0) || not (e .alu .writes)))))
 
 unfoldable pub oddStore : Operands → Effect → Bool
-oddStore o e = (e .«always_writes» && not (e .writes && isNamed (o .dest))) || o .«is_store» &&
-    ((e .writes && isNamed (o .dest)) || (isException (e .exception) || eqb (e .«mem_size») 0))
+oddStore o e = (e .alu .«always_writes» && not (e .alu .writes && isNamed (o .dest))) || o .«is_store» &&
+    ((e .alu .writes && isNamed (o .dest)) || (isException (e .marks .exception) || eqb (e .access .«mem_size») 0))
 
 unfoldable pub oddWait : Bool → Bool → Operands → Effect → Redirect → Bool
 oddWait u v o e g = ((u || v) && (isTo (e .redirect) || isTo g)) ||
@@ -64,7 +66,7 @@ oddMode k (ToMode n) h = false
 
 -- a width that is none, or more than two sources
 unfoldable pub oddBounds : Operands → Effect → Bool
-oddBounds o e = badWidth (e .«mem_size») || ltb 2 (o .«n_srcs»)
+oddBounds o e = badWidth (e .access .«mem_size») || ltb 2 (o .«n_srcs»)
 
 -- a latency other than none, 3 and 16
 unfoldable pub oddLatency : Operands → Bool
@@ -90,7 +92,7 @@ unfolding odd oddLoad oddStore oddWait oddSwap oddLatency oddMode oddBounds badW
     effectN isMul isDiv
     isTo
     isNamed predict predictBy isException bare plain writes unary binary reads loading storing branching special
-    nothing calm
+    nothing written noResult noAccess noMarks goesOn goesBy marked stops resumes identifies
     gives reaches branches jumps links raises sets privileged
 not-oddN u Nop p n m x y = refl
 not-oddN u (Ld rd base offset) p n m x y = refl
@@ -144,7 +146,7 @@ unfolding odd oddLoad oddStore oddWait oddSwap oddLatency oddMode oddBounds badW
     effectS isMul isDiv
     isTo
     isNamed predict predictBy isException bare plain writes unary binary reads loading storing branching special
-    nothing calm
+    nothing written noResult noAccess noMarks goesOn goesBy marked stops resumes identifies
     gives reaches branches jumps links raises sets privileged
 not-oddS (sMov rd rs1) p n m x y = refl
 not-oddS (sAdd rd rs1 rs2) p n m x y = refl
@@ -239,9 +241,9 @@ settleN : (u : Bool) (i : Instruction) (p x y f : ℕ)
     Next
     → (targetOr ((effectN u i (fall p Normal) x y) .redirect) f ≡ targetOr (predict (DecNormal i) p Normal) f)
     × (modeOr ((effectN u i (fall p Normal) x y) .redirect) Normal ≡ modeOr (predict (DecNormal i) p Normal) Normal)
-unfolding predict predictBy operandsOf operandsN effectN isTo targetOr modeOr offset32 bare plain writes unary
-    binary reads
-    loading storing branching special nothing calm gives reaches branches jumps links raises sets privileged
+unfolding predict predictBy operandsOf operandsN effectN isTo targetOr modeOr offset32 bare plain writes unary binary
+    reads loading storing branching special nothing written noResult noAccess noMarks goesOn goesBy marked stops
+    resumes identifies gives reaches branches jumps links raises sets privileged
 settleN u Nop p x y f e = settle-on _ f Normal e
 settleN u (Ld rd base offset) p x y f e = settle-on _ f Normal e
 settleN u (St rd base offset) p x y f e = settle-on _ f Normal e
@@ -292,9 +294,9 @@ settleS : (i : ShortInstruction) (p x y f : ℕ)
     → mispredict (isTo (predict (DecShort i) p Short)) ((effectS i (fall p Short) x y) .redirect) f Short ≡ Next
     → (targetOr ((effectS i (fall p Short) x y) .redirect) f ≡ targetOr (predict (DecShort i) p Short) f)
     × (modeOr ((effectS i (fall p Short) x y) .redirect) Short ≡ modeOr (predict (DecShort i) p Short) Short)
-unfolding predict predictBy operandsOf operandsS effectS isTo targetOr modeOr offset32 bare plain writes unary
-    binary reads
-    loading storing branching special nothing calm gives reaches branches jumps links raises sets privileged
+unfolding predict predictBy operandsOf operandsS effectS isTo targetOr modeOr offset32 bare plain writes unary binary
+    reads loading storing branching special nothing written noResult noAccess noMarks goesOn goesBy marked stops
+    resumes identifies gives reaches branches jumps links raises sets privileged
 settleS (sMov rd rs1) p x y f e = settle-on _ f Short e
 settleS (sAdd rd rs1 rs2) p x y f e = settle-on _ f Short e
 settleS (sAddi rd imm) p x y f e = settle-on _ f Short e
@@ -341,13 +343,13 @@ ok-dest (DecNormal i) Short e = cc
 ok-dest (DecShort i) m e = and-3 (ltb ((operandsS i) .«src_a») 32) (ltb ((operandsS i) .«src_b») 32) _ (short-ok i)
 
 -- the width of an effect and the number of sources are in bounds
-pub width-in : (u : Bool) (i : Decoded) (p x y : ℕ) → badWidth ((effectOf u i p x y) .«mem_size») ≡ false
+pub width-in : (u : Bool) (i : Decoded) (p x y : ℕ) → badWidth ((effectOf u i p x y) .access .«mem_size») ≡ false
 unfolding oddBounds
-width-in u i p x y = or-l (badWidth ((effectOf u i p x y) .«mem_size»)) _ ((even u i p Normal x y) .bounds)
+width-in u i p x y = or-l (badWidth ((effectOf u i p x y) .access .«mem_size»)) _ ((even u i p Normal x y) .bounds)
 
 pub sources-in : (i : Decoded) → ltb 2 ((operandsOf i) .«n_srcs») ≡ false
 unfolding oddBounds
-sources-in i = or-r (badWidth ((effectOf false i 0 0 0) .«mem_size»)) _ ((even false i 0 Normal 0 0) .bounds)
+sources-in i = or-r (badWidth ((effectOf false i 0 0 0) .access .«mem_size»)) _ ((even false i 0 Normal 0 0) .bounds)
 
 pub on-on : (g h : Redirect) (p : ℕ) (m : Mode) → (isTo h || isTo g) ≡ false → mispredict (isTo g) h p m ≡ Next
 unfolding isTo mispredict
@@ -367,7 +369,7 @@ waits-by l h = split (eqb l 0)
     (λ t. split (eqb l 16) (λ s. rw (eqb-true l 16 s)) (λ s. absurd (false≢true (sym h ∙ rw (z, t, s))))))
 
 pub waits-is : (i : Decoded) → waits i ≡ 2 * bit (isMul i) + 15 * bit (isDiv i)
-unfolding waits waitsBy isMul isDiv oddLatency
+unfolding waits isMul isDiv oddLatency
 waits-is i = waits-by ((operandsOf i) .latency) ((even false i 0 Normal 0 0) .latency)
 
 -- what a load does and does not
@@ -375,10 +377,10 @@ pub record Plain (i : Decoded) (p : ℕ) (m : Mode) (e : Effect) : Type 0 where
   pub straight : (q : ℕ) → mispredict (isTo (predict i p m)) (e .redirect) q m ≡ Next
   pub quick : waits i ≡ 0
   pub «is_store» : (operandsOf i) .«is_store» ≡ false
-  pub cpuid : e .cpuid ≡ false
-  pub exception : isException (e .exception) ≡ false
-  pub «mem_size» : eqb (e .«mem_size») 0 ≡ false
-  pub writes : e .writes ≡ true
+  pub cpuid : e .marks .cpuid ≡ false
+  pub exception : isException (e .marks .exception) ≡ false
+  pub «mem_size» : eqb (e .access .«mem_size») 0 ≡ false
+  pub writes : e .alu .writes ≡ true
 
 pub load-plain : (u : Bool) (i : Decoded) (p : ℕ) (m : Mode) (x y : ℕ) → (operandsOf i) .«is_load» ≡ true → Plain i
     p m (effectOf u i p x y)
@@ -392,25 +394,25 @@ load-plain u i p m x y z =
     let r2 = or-r (isMul i || isDiv i) _ r1 in
     let t = or-l (isTo (e .redirect) || isTo g) _ r2 in
     let r3 = or-r (isTo (e .redirect) || isTo g) _ r2 in
-    let sc = or-l (o .«is_store» || e .cpuid) _ r3 in
-    let r4 = or-r (o .«is_store» || e .cpuid) _ r3 in
-    let tw = or-l (isException (e .exception) || eqb (e .«mem_size») 0) _ r4 in
-    let r5 = or-r (isException (e .exception) || eqb (e .«mem_size») 0) _ r4 in
+    let sc = or-l (o .«is_store» || e .marks .cpuid) _ r3 in
+    let r4 = or-r (o .«is_store» || e .marks .cpuid) _ r3 in
+    let tw = or-l (isException (e .marks .exception) || eqb (e .access .«mem_size») 0) _ r4 in
+    let r5 = or-r (isException (e .marks .exception) || eqb (e .access .«mem_size») 0) _ r4 in
     record {
       straight = λ q. on-on g _ q m t;
       quick = waits-is i ∙ rw (or-l (isMul i) (isDiv i) w, or-r (isMul i) (isDiv i) w);
       «is_store» = or-l (o .«is_store») _ sc;
       cpuid = or-r (o .«is_store») _ sc;
-      exception = or-l (isException (e .exception)) _ tw;
-      «mem_size» = or-r (isException (e .exception)) _ tw;
-      writes = un-not (e .writes) r5;
+      exception = or-l (isException (e .marks .exception)) _ tw;
+      «mem_size» = or-r (isException (e .marks .exception)) _ tw;
+      writes = un-not (e .alu .writes) r5;
     }
 
 -- what a store does not
 pub record Stores (i : Decoded) (e : Effect) : Type 0 where
-  pub dest : (e .writes && isNamed ((operandsOf i) .dest)) ≡ false
-  pub exception : isException (e .exception) ≡ false
-  pub «mem_size» : eqb (e .«mem_size») 0 ≡ false
+  pub dest : (e .alu .writes && isNamed ((operandsOf i) .dest)) ≡ false
+  pub exception : isException (e .marks .exception) ≡ false
+  pub «mem_size» : eqb (e .access .«mem_size») 0 ≡ false
 
 pub store-plain : (u : Bool) (i : Decoded) (p : ℕ) (x y : ℕ) → (operandsOf i) .«is_store» ≡ true → Stores i
     (effectOf u i p x y)
@@ -419,13 +421,13 @@ store-plain u i p x y z =
     let e = effectOf u i p x y in
     let o = operandsOf i in
     let g = predict i p Normal in
-    let r1 = and-r (o .«is_store») _ (or-r (e .«always_writes» && not (e .writes && isNamed (o .dest))) _
+    let r1 = and-r (o .«is_store») _ (or-r (e .alu .«always_writes» && not (e .alu .writes && isNamed (o .dest))) _
     ((even u i p Normal x y) .store)) z in
-    let r2 = or-r (e .writes && isNamed (o .dest)) _ r1 in
+    let r2 = or-r (e .alu .writes && isNamed (o .dest)) _ r1 in
     record {
-      dest = or-l (e .writes && isNamed (o .dest)) _ r1;
-      exception = or-l (isException (e .exception)) _ r2;
-      «mem_size» = or-r (isException (e .exception)) _ r2;
+      dest = or-l (e .alu .writes && isNamed (o .dest)) _ r1;
+      exception = or-l (isException (e .marks .exception)) _ r2;
+      «mem_size» = or-r (isException (e .marks .exception)) _ r2;
     }
 
 -- what is written back in any case has a destination
@@ -436,15 +438,16 @@ force-by true false d e = cc
 force-by false w d e = refl
 
 pub force-none : (u : Bool) (i : Decoded) (p : ℕ) (x y : ℕ)
-    → ((effectOf u i p x y) .«always_writes» || ((effectOf u i p x y) .writes && isNamed ((operandsOf i) .dest))) ≡
-    ((effectOf u i p x y) .writes && isNamed ((operandsOf i) .dest))
+    → ((effectOf u i p x y) .alu .«always_writes» ||
+    ((effectOf u i p x y) .alu .writes && isNamed ((operandsOf i) .dest))) ≡
+    ((effectOf u i p x y) .alu .writes && isNamed ((operandsOf i) .dest))
 unfolding oddStore
 force-none u i p x y =
     let e = effectOf u i p x y in
     let o = operandsOf i in
     let g = predict i p Normal in
-    force-by (e .«always_writes») (e .writes) (isNamed (o .dest))
-    (or-l (e .«always_writes» && not (e .writes && isNamed (o .dest))) _
+    force-by (e .alu .«always_writes») (e .alu .writes) (isNamed (o .dest))
+    (or-l (e .alu .«always_writes» && not (e .alu .writes && isNamed (o .dest))) _
     ((even u i p Normal x y) .store))
 
 -- multiplies and divides

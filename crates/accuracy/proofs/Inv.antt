@@ -8,41 +8,46 @@ use mathlib.Core.List.{List, _++_, _∷_, append-nil}
 use mathlib.Core.Path.{_∙_, _≡_, ap, refl, subst, sym}
 use native.Mathlib.Omega.{arith}
 use Rattle.isa.proofs.Bools.{split}
-use Rattle.isa.proofs.Machine.{walk}
+use Rattle.isa.proofs.Machine.{step, walk}
 use Rattle.isa.specs.Effect.{effectOf, fall}
-use Rattle.isa.specs.Machine.{Arch, Machine, Program, destOf, destWhere, effectAt, first, instructionAt, isBarred}
-use Rattle.isa.specs.Machine.{isEmpty, machine, machineBy, machineStep, rest, step, stepBy, stopsAt, valueAt}
+use Rattle.isa.specs.Machine.{Arch, Machine, Program, destOf, effectAt, first, instructionAt, isBarred, isEmpty}
+use Rattle.isa.specs.Machine.{machine, machineBy, machineStep, rest, stepBy, stopsAt, valueAt}
 use Rattle.isa.specs.Operands.{okDest, operandsOf}
 use Rattle.isa.specs.Redirects.{isException, isTo, modeOr, targetOr}
 use Rattle.isa.specs.Registers.{isDest, isReg, readReg, writeCpuid}
 use Rattle.isa.specs.Short.{decodedOf}
 use Rattle.isa.specs.Waits.{isUsed, isUsedLoad, waits}
 use Rattle.latch.specs.Decode.{decodePredicted, idExBy, idExOf, loadUse}
-use Rattle.latch.specs.Execute.{effectIn, exMemOf, mispredict}
-use Rattle.latch.specs.Forwarding.{fromExMem, fromMemWb}
+use Rattle.latch.specs.Execute.{effectFrom, effectIn, exMemOf, mispredict, operandB}
+use Rattle.latch.specs.Forwarding.{cpuidWord, forwardFrom, fromExMem, fromMemWb}
 use Rattle.latch.specs.Latches.{cleared, emptyExMem, emptyIdEx, emptyMemWb}
-use Rattle.latch.specs.Memory.{destAfter, loads, memWbOf, requests, stores, valueAfter, writesAfter}
+use Rattle.latch.specs.Memory.{destAfter, loads, memWbOf, passedOn, requests, stores, valueAfter, writesAfter}
 use Rattle.latch.specs.Retire.{halts, isFaulty, retiredMode, retiredPc, retiredRegs}
+use Rattle.pipeline.specs.Advance.{advance, advanceBy, advanceStages, idExAfter, ifIdAfter, placeAfter, waitAfter}
+use Rattle.pipeline.specs.Ask.{asks}
+use Rattle.pipeline.specs.Counting.{countRetired, counted, flushes, stalls}
+use Rattle.pipeline.specs.Execute.{effectFor, executed, executedBy, redirectBy, redirectOf}
+use Rattle.pipeline.specs.Fetch.{fetchFrom, fetchPlace, fetched, fetches, nextIdEx, placeOr, predicted}
+use Rattle.pipeline.specs.Forwarding.{forwarded}
+use Rattle.pipeline.specs.Move.{beginsWait, freeMove, hazard, isSlow, isWait, move, moveFrom, moveOf, nextExMem}
+use Rattle.pipeline.specs.Move.{proceedOr, waitsOn}
+use Rattle.pipeline.specs.Retire.{retire, retireStages}
+use Rattle.word.specs.Words.{bit}
 use Rattle.accuracy.proofs.Instructions.{few, go-cases, kind, load-plain, ok-dest, ok-kind, okIn, slow-load}
-use Rattle.accuracy.proofs.Path.{At, asked-at, commit-at, due, dxAt, effOf, latch-at, ld-at, left-at}
-use Rattle.accuracy.proofs.Path.{load-at, load-facts, load-turn, mem-at, mode-at, mode-kept, mode-new, mwAt}
-use Rattle.accuracy.proofs.Path.{next-guessed, next-turned, pc-at, settled, slow-turn, swerve-turn, turnAt}
-use Rattle.accuracy.proofs.Path.{xm-regs-at, xmAt}
+use Rattle.accuracy.proofs.Path.{At, asked-at, commit-at, due, dxAt, effOf, latch-at, ld-at, left-at, load-at}
+use Rattle.accuracy.proofs.Path.{load-facts, load-turn, mem-at, mode-at, mode-kept, mode-new, mwAt, next-guessed}
+use Rattle.accuracy.proofs.Path.{next-turned, pc-at, settled, slow-turn, swerve-turn, turnAt, xm-regs-at, xmAt}
 use Rattle.accuracy.proofs.Registers.{fwd-load, fwd-xm, length-cpu, length-put, read-put, zero-cpu, zero-put}
 use Rattle.accuracy.proofs.Registers.{zero-read}
 use Rattle.accuracy.specs.Accuracy.{answers}
-use Rattle.pipeline.specs.Advance.{Taken, advance, advanceBy, proceeding, redirecting, stalling, waiting}
-use Rattle.pipeline.specs.Ask.{asks}
 use Rattle.accuracy.specs.Count.{count, predictAt}
-use Rattle.pipeline.specs.Execute.{effectFor, executed, executedBy, operandB, redirectBy, redirectOf}
-use Rattle.pipeline.specs.Fetch.{fetchPlace, fetched, fetches, nextIdEx, predicted}
-use Rattle.pipeline.specs.Forwarding.{forwarded}
-use Rattle.pipeline.specs.Move.{choose, chooseDone, chooseFree, hazard, isSlow, move, nextExMem, proceedOr}
 use Rattle.accuracy.specs.Names.{Decoded, Dest, Effect, ExMem, IdEx, IfId, MemWb, Mode, Move, Next, NoDest}
-use Rattle.accuracy.specs.Names.{Normal, PipelineCpu, RawInstr, Redirect, Reg, Request, To, beginWait}
-use Rattle.accuracy.specs.Names.{keepWaiting, loadUseStall, proceed, redirect}
-use Rattle.pipeline.specs.Retire.{retire}
-use Rattle.word.specs.Words.{bit}
+use Rattle.accuracy.specs.Names.{Normal, PipelineCpu, Place, RawInstr, Redirect, Reg, Request, Taken, To}
+use Rattle.accuracy.specs.Names.{beginWait, keepWaiting, loadUseStall, proceed, redirect}
+
+-- the move by its five values: armed, more than one tick left, a used load, a multiply or divide in ID/EX, the redirect
+unfoldable choose : Bool → Bool → Bool → Bool → Redirect → Move
+choose a l z w g = cond (a && l) keepWaiting (cond (not a && (not z && w)) beginWait (moveFrom z g))
 
 unfoldable pub okAt : Program → Arch → Bool
 okAt prog w = okIn (instructionAt prog w) (w .mode)
@@ -83,22 +88,23 @@ module _ (prog : Program) (w₀ : Arch) where
         → Front fpc fmode fd dx armed cycles t n
 
   abbrev pub FrontOf : PipelineCpu → ℕ → ℕ → Type 0
-  FrontOf s t n = Front (s .«fetch_pc») (s .«fetch_mode») (s .«if_id») (s .«id_ex») (s .«ex_armed»)
-      (s .«ex_cycles_left») t n
+  FrontOf s t n = Front (s .stages .«fetch_at» .pc) (s .stages .«fetch_at» .mode) (s .stages .«if_id»)
+      (s .stages .«id_ex») (s .stages .«ex_armed»)
+      (s .stages .«ex_cycles_left») t n
 
   -- the retire place is the machine's
   abbrev pub PlaceIs : PipelineCpu → Arch → Type 0
-  PlaceIs s w = (s .«retire_pc» ≡ w .pc) × (s .«retire_mode» ≡ w .mode)
+  PlaceIs s w = (s .stages .«retire_at» .pc ≡ w .pc) × (s .stages .«retire_at» .mode ≡ w .mode)
 
   pub record Live (s : PipelineCpu) (t : ℕ) (asked : List Request) (left : List ℕ) (k n₁ n₂ : ℕ) : Type 0 where
-    pub running : s .running ≡ true
-    pub features : s .features ≡ prog .features
-    pub user : s .user ≡ prog .user
-    pub count : s .«instructions_executed» ≡ k
+    pub running : s .stages .running ≡ true
+    pub features : s .stages .features ≡ prog .features
+    pub user : s .stages .user ≡ prog .user
+    pub count : s .counts .«instructions_executed» ≡ k
     pub reg : s .reg ≡ (walk prog w₀ k) .reg
     pub place : PlaceIs s (walk prog w₀ k)
-    pub «mem_wb» : Mw t (s .«mem_wb») k n₁
-    pub «ex_mem» : Xm t (s .«ex_mem») n₁ n₂
+    pub «mem_wb» : Mw t (s .stages .«mem_wb») k n₁
+    pub «ex_mem» : Xm t (s .stages .«ex_mem») n₁ n₂
     pub front : FrontOf s t n₂
     pub asks : asked ≡ (walk prog w₀ n₁) .requests
     pub answers : left ≡ (walk prog w₀ n₁) .answers
@@ -106,15 +112,15 @@ module _ (prog : Program) (w₀ : Arch) where
 
   -- after retirement
   pub record Mid (s : PipelineCpu) (t : ℕ) (asked : List Request) (left : List ℕ) (n₁ n₂ : ℕ) : Type 0 where
-    pub running : s .running ≡ true
-    pub features : s .features ≡ prog .features
-    pub user : s .user ≡ prog .user
-    pub count : s .«instructions_executed» ≡ n₁
+    pub running : s .stages .running ≡ true
+    pub features : s .stages .features ≡ prog .features
+    pub user : s .stages .user ≡ prog .user
+    pub count : s .counts .«instructions_executed» ≡ n₁
     pub reg : s .reg ≡ (walk prog w₀ n₁) .reg
     pub place : PlaceIs s (walk prog w₀ n₁)
-    pub still : (r : ℕ) → eqb r 0 ≡ false → fromMemWb (s .«mem_wb») (prog .features) r (readReg (s .reg) r) ≡
+    pub still : (r : ℕ) → eqb r 0 ≡ false → fromMemWb (s .stages .«mem_wb») (prog .features) r (readReg (s .reg) r) ≡
         readReg (s .reg) r
-    pub «ex_mem» : Xm t (s .«ex_mem») n₁ n₂
+    pub «ex_mem» : Xm t (s .stages .«ex_mem») n₁ n₂
     pub front : FrontOf s t n₂
     pub asks : asked ≡ (walk prog w₀ n₁) .requests
     pub answers : left ≡ (walk prog w₀ n₁) .answers
@@ -132,32 +138,34 @@ module _ (prog : Program) (w₀ : Arch) where
   unfolding bit
   due-far t k d z = rw (due-suc k, d, z) (omega arith)
 
-  mode-is : (s : PipelineCpu) (k : ℕ) → s .«mem_wb» ≡ mwAt prog (walk prog w₀ k) → s .«fetch_mode» ≡
-      (walk prog w₀ (suc k)) .mode → retiredMode (s .«mem_wb») (s .«fetch_mode») ≡ s .«fetch_mode»
+  mode-is : (s : PipelineCpu) (k : ℕ) → s .stages .«mem_wb» ≡ mwAt prog (walk prog w₀ k) → s .stages .«fetch_at» .mode ≡
+      (walk prog w₀ (suc k)) .mode → retiredMode (s .stages .«mem_wb»)
+      (s .stages .«fetch_at» .mode) ≡ s .stages .«fetch_at» .mode
   unfolding walk
   mode-is s k e q = rw (e, q) (mode-new prog (walk prog w₀ k))
 
-  turned-mode : (s : PipelineCpu) (t k : ℕ) → s .«mem_wb» ≡ mwAt prog (walk prog w₀ k) → due prog w₀ k ≡ t + 1
+  turned-mode : (s : PipelineCpu) (t k : ℕ) → s .stages .«mem_wb» ≡ mwAt prog (walk prog w₀ k) → due prog w₀ k ≡ t + 1
       → t + 4 + waits (instructionAt prog (walk prog w₀ (suc k))) ≤ due prog w₀ (suc k) → FrontOf s t (suc k) →
-      retiredMode (s .«mem_wb») (s .«fetch_mode») ≡ s .«fetch_mode»
+      retiredMode (s .stages .«mem_wb») (s .stages .«fetch_at» .mode) ≡ s .stages .«fetch_at» .mode
   turned-mode s t k e d h (f0 a b c p q u) = mode-is s k e q
   turned-mode s t k e d h (f1 a b c p q u o) = mode-is s k e q
-  turned-mode s t k e d h (f2 rs a b p q u v o o2) = split (s .«ex_armed»)
+  turned-mode s t k e d h (f2 rs a b p q u v o o2) = split (s .stages .«ex_armed»)
       (λ z. let y = v z in absurd (omega arith))
       (λ z. let y = u z in absurd (omega arith))
 
   -- the mode that fetch is in is not disturbed by retirement
-  mode-same : (s : PipelineCpu) (t k n₁ n₂ : ℕ) → Mw t (s .«mem_wb») k n₁ → Xm t (s .«ex_mem») n₁ n₂ → FrontOf s t
+  mode-same : (s : PipelineCpu) (t k n₁ n₂ : ℕ) → Mw t (s .stages .«mem_wb») k n₁ → Xm t
+      (s .stages .«ex_mem») n₁ n₂ → FrontOf s t
       n₂
-      → retiredMode (s .«mem_wb») (s .«fetch_mode») ≡ s .«fetch_mode»
+      → retiredMode (s .stages .«mem_wb») (s .stages .«fetch_at» .mode) ≡ s .stages .«fetch_at» .mode
   unfolding retiredMode emptyMemWb
   mode-same s t k n₁ n₂ (gap e) x fr = rw e
   mode-same s t k n₁ n₂ (full e d o g) (full e2 d2 o2) fr = split (isTo (turnAt prog (walk prog w₀ k)))
       (λ z. let h = due-far t k d z in absurd (omega arith))
-      (λ z. rw e (mode-kept prog (walk prog w₀ k) z (s .«fetch_mode»)))
+      (λ z. rw e (mode-kept prog (walk prog w₀ k) z (s .stages .«fetch_at» .mode)))
   mode-same s t k n₁ n₂ (full e d o g) (gap e2) fr = split (isTo (turnAt prog (walk prog w₀ k)))
       (λ z. turned-mode s t k e d (due-far t k d z) fr)
-      (λ z. rw e (mode-kept prog (walk prog w₀ k) z (s .«fetch_mode»)))
+      (λ z. rw e (mode-kept prog (walk prog w₀ k) z (s .stages .«fetch_at» .mode)))
 
   module _ (len : length (w₀ .reg) ≡ 32) (nought : getD (w₀ .reg) 0 0 ≡ 0) where
     walk-length : (n : ℕ) → length ((walk prog w₀ n) .reg) ≡ 32
@@ -186,8 +194,8 @@ module _ (prog : Program) (w₀ : Arch) where
     dest-ok w o = ok-dest (instructionAt prog w) (w .mode) o
 
     end-ok : (e : Effect) (d : Dest) → okDest d ≡ true → okDest (destOf e d) ≡ true
-    unfolding destOf destWhere okDest
-    end-ok e d o = split (e .writes) (λ z. rw z o) (λ z. rw z)
+    unfolding destOf okDest
+    end-ok e d o = split (e .alu .writes) (λ z. rw z o) (λ z. rw z)
 
     kind-ok : (w : Arch) → okAt prog w ≡ true → kind (instructionAt prog w) ≡ w .mode
     unfolding okAt instructionAt
@@ -200,14 +208,14 @@ module _ (prog : Program) (w₀ : Arch) where
     ok-cond false false d e = e
 
     mw-ok : (w : Arch) → okAt prog w ≡ true → okDest ((mwAt prog w) .dest) ≡ true
-    unfolding mwAt memWbOf destAfter writesAfter valueAfter xmAt exMemOf dxAt idExOf idExBy instructionAt
+    unfolding mwAt memWbOf passedOn destAfter writesAfter valueAfter xmAt exMemOf dxAt idExOf idExBy instructionAt
     mw-ok w o = ok-cond (loads (xmAt prog w)) (stores (xmAt prog w)) _ (end-ok (effOf prog w) _ (dest-ok w o))
 
     -- retirement
     still-mw : (l : MemWb) (t k n₁ : ℕ) → Mw t l k n₁ → (r : ℕ) → eqb r 0 ≡ false
         → fromMemWb l (prog .features) r (readReg (retiredRegs l (prog .features) ((walk prog w₀ k) .reg)) r) ≡
         readReg (retiredRegs l (prog .features) ((walk prog w₀ k) .reg)) r
-    unfolding fromMemWb emptyMemWb retiredRegs
+    unfolding fromMemWb cpuidWord emptyMemWb retiredRegs
     still-mw l t k n₁ (gap e) r z = rw e
     still-mw l t k n₁ (full e d o g) r z = settled l (prog .features) ((walk prog w₀ k) .reg) r
         (rw e (mw-ok (walk prog w₀ k) o)) (walk-length k) z
@@ -230,7 +238,7 @@ module _ (prog : Program) (w₀ : Arch) where
     )
 
     pub count-mw : (l : MemWb) (t k n₁ : ℕ) → Mw t l k n₁ → k + bit (l .valid) ≡ n₁
-    unfolding bit emptyMemWb mwAt memWbOf destAfter writesAfter valueAfter xmAt exMemOf
+    unfolding bit emptyMemWb mwAt memWbOf passedOn destAfter writesAfter valueAfter xmAt exMemOf
     count-mw l t k n₁ (gap e) = rw e (omega arith)
     count-mw l t k n₁ (full e d o g) = rw e (omega arith)
 
@@ -238,7 +246,7 @@ module _ (prog : Program) (w₀ : Arch) where
         instructionAt prog w ≡ i
         → isBarred (effectAt prog i w) ≡ false → ((operandsOf i) .«is_load» ≡ true → isEmpty (w .answers) ≡ false)
         → machineBy prog (instructionAt prog (m .arch)) m ≡ record
-        { arch = stepBy prog i w; runs = not ((effectAt prog i w) .halt); done = suc k }
+        { arch = stepBy prog i w; runs = not ((effectAt prog i w) .marks .halt); done = suc k }
     unfolding machineBy stopsAt
     isa-by w i m k e q h g = ap (λ (x : Machine). machineBy prog (instructionAt prog (x .arch)) x) e ∙ rw q
         (split ((operandsOf i) .«is_load»)
@@ -247,7 +255,7 @@ module _ (prog : Program) (w₀ : Arch) where
     pub isa-mw : (l : MemWb) (t k n₁ : ℕ) → Mw t l k n₁ → isFaulty l ≡ false → machine prog w₀ k ≡ record
         { arch = walk prog w₀ k; runs = true; done = k }
         → machine prog w₀ n₁ ≡ record { arch = walk prog w₀ n₁; runs = not (halts l); done = n₁ }
-    unfolding halts emptyMemWb walk machine machineStep step mwAt memWbOf destAfter writesAfter valueAfter xmAt
+    unfolding halts emptyMemWb walk machine machineStep step mwAt memWbOf passedOn destAfter writesAfter valueAfter xmAt
         exMemOf dxAt idExOf idExBy effectAt
         instructionAt isBarred isFaulty effOf
     isa-mw l t k n₁ (gap e) h u = rw e u
@@ -257,24 +265,25 @@ module _ (prog : Program) (w₀ : Arch) where
 
     pub retire-live : (s : PipelineCpu) (t : ℕ) (asked : List Request) (left : List ℕ) (k n₁ n₂ : ℕ) → Live s t
         asked left k n₁ n₂
-        → isFaulty (s .«mem_wb») ≡ false → halts (s .«mem_wb») ≡ false → Mid (retire s) t asked left n₁ n₂
-    unfolding retire
+        → isFaulty (s .stages .«mem_wb») ≡ false → halts (s .stages .«mem_wb») ≡ false → Mid
+        (retire s) t asked left n₁ n₂
+    unfolding retire retireStages countRetired
     retire-live s t asked left k n₁ n₂ i nf h = record {
       running = rw h (i .running);
       features = i .features;
       user = i .user;
-      count = rw (i .count) (count-mw (s .«mem_wb») t k n₁ (i .«mem_wb»));
-      reg = rw (i .features, i .reg) (regs-mw (s .«mem_wb») t k n₁ (i .«mem_wb»));
+      count = rw (i .count) (count-mw (s .stages .«mem_wb») t k n₁ (i .«mem_wb»));
+      reg = rw (i .features, i .reg) (regs-mw (s .stages .«mem_wb») t k n₁ (i .«mem_wb»));
       place = (
-        rw ((i .place) .0) ((place-mw (s .«mem_wb») t k n₁ (i .«mem_wb»)) .0),
-        rw ((i .place) .1) ((place-mw (s .«mem_wb») t k n₁ (i .«mem_wb»)) .1),
+        rw ((i .place) .0) ((place-mw (s .stages .«mem_wb») t k n₁ (i .«mem_wb»)) .0),
+        rw ((i .place) .1) ((place-mw (s .stages .«mem_wb») t k n₁ (i .«mem_wb»)) .1),
       );
-      still = λ r z. rw (i .features, i .reg) (still-mw (s .«mem_wb») t k n₁ (i .«mem_wb») r z);
+      still = λ r z. rw (i .features, i .reg) (still-mw (s .stages .«mem_wb») t k n₁ (i .«mem_wb») r z);
       «ex_mem» = rw h (i .«ex_mem»);
       front = rw (h, mode-same s t k n₁ n₂ (i .«mem_wb») (i .«ex_mem») (i .front)) (i .front);
       asks = i .asks;
       answers = i .answers;
-      runs = isa-mw (s .«mem_wb») t k n₁ (i .«mem_wb») nf (i .runs) ∙ rw h;
+      runs = isa-mw (s .stages .«mem_wb») t k n₁ (i .«mem_wb») nf (i .runs) ∙ rw h;
     }
 
     zero-zero : (rs qs : List ℕ) → readReg rs 0 ≡ readReg qs 0
@@ -306,14 +315,14 @@ module _ (prog : Program) (w₀ : Arch) where
     xm-ok w o = end-ok (effOf prog w) _ (dest-ok w o)
 
     hits-end : (e : Effect) (d : Dest) (r : ℕ) → isDest d r ≡ false → isDest (destOf e d) r ≡ false
-    unfolding destOf destWhere isDest
-    hits-end e d r h = split (e .writes) (λ z. rw z h) (λ z. rw z)
+    unfolding destOf isDest
+    hits-end e d r h = split (e .alu .writes) (λ z. rw z h) (λ z. rw z)
 
-    xm-cpu : (w : Arch) → (xmAt prog w) .cpuid ≡ (effOf prog w) .cpuid
+    xm-cpu : (w : Arch) → (xmAt prog w) .cpuid ≡ (effOf prog w) .marks .cpuid
     unfolding xmAt exMemOf dxAt idExOf idExBy instructionAt
     xm-cpu w = refl
 
-    load-cpu : (w : Arch) → (operandsOf (instructionAt prog w)) .«is_load» ≡ true → (effOf prog w) .cpuid ≡ false
+    load-cpu : (w : Arch) → (operandsOf (instructionAt prog w)) .«is_load» ≡ true → (effOf prog w) .marks .cpuid ≡ false
     unfolding effOf effectAt
     load-cpu w e = (load-facts prog w e) .cpuid
 
@@ -327,7 +336,7 @@ module _ (prog : Program) (w₀ : Arch) where
         fwd-load (xmAt prog w) (prog .features) (readReg (w .reg) r) r (load-at prog w ∙ e) (xm-cpu w ∙ c)
         ∙ sym (read-put (destOf (effOf prog w) ((operandsOf (instructionAt prog w)) .dest))
         (valueAt prog (instructionAt prog w) w) _ r (end-ok (effOf prog w) _ (dest-ok w o))
-        (length-cpu ((effOf prog w) .cpuid) (prog .features) (w .reg) ∙ n) z ∙ rw
+        (length-cpu ((effOf prog w) .marks .cpuid) (prog .features) (w .reg) ∙ n) z ∙ rw
         (hits-end (effOf prog w) ((operandsOf (instructionAt prog w)) .dest) r h, c))
 
     fwd-full : (w : Arch) (r : ℕ) → getD (w .reg) 0 0 ≡ 0 → okAt prog w ≡ true → length (w .reg) ≡ 32 → eqb r 0 ≡
@@ -347,18 +356,18 @@ module _ (prog : Program) (w₀ : Arch) where
 
     fwd-xm-slot : (l : ExMem) (t n₁ n₂ r : ℕ) → Xm t l n₁ n₂ → eqb r 0 ≡ false → NoException n₁ n₂ r
         → fromExMem l (prog .features) r (readReg ((walk prog w₀ n₁) .reg) r) ≡ readReg ((walk prog w₀ n₂) .reg) r
-    unfolding fromExMem emptyExMem walk
+    unfolding fromExMem cpuidWord emptyExMem walk
     fwd-xm-slot l t n₁ n₂ r (gap e) z h = rw e
     fwd-xm-slot l t n₁ n₂ r (full e d o) z h = rw e (fwd-full (walk prog w₀ n₁) r (walk-zero n₁) o (walk-length n₁)
         z (λ q. h refl q z))
 
     pub fwd-mid : (s : PipelineCpu) (t : ℕ) (asked : List Request) (left : List ℕ) (n₁ n₂ : ℕ) → Mid s t asked left
         n₁ n₂ → (r : ℕ) → NoException n₁ n₂ r
-        → forwarded s r ≡ readReg ((walk prog w₀ n₂) .reg) r
-    unfolding forwarded
+        → forwarded (s .stages) (s .reg) r ≡ readReg ((walk prog w₀ n₂) .reg) r
+    unfolding forwarded forwardFrom
     fwd-mid s t asked left n₁ n₂ i r h = split (eqb r 0)
         (λ z. rw z (zero-read _ r z))
-        (λ z. rw (z, i .features, i .still r z, i .reg) (fwd-xm-slot (s .«ex_mem») t n₁ n₂ r (i .«ex_mem») z h))
+        (λ z. rw (z, i .features, i .still r z, i .reg) (fwd-xm-slot (s .stages .«ex_mem») t n₁ n₂ r (i .«ex_mem») z h))
 
     -- EX/MEM holds no load that the instruction about to execute reads
     abbrev W : ℕ → Arch
@@ -394,14 +403,6 @@ module _ (prog : Program) (w₀ : Arch) where
     unfolding xmAt exMemOf
     xm-valid w = refl
 
-    first-is : (l : List ℕ) (v : ℕ) → l ≡ v ∷ rest l → first l ≡ v
-    unfolding first
-    first-is l v e = ap (λ (x : List ℕ). first x) e
-
-    some-is : (l : List ℕ) (v : ℕ) → l ≡ v ∷ rest l → isEmpty l ≡ false
-    unfolding isEmpty
-    some-is l v e = ap (λ (x : List ℕ). isEmpty x) e
-
     load-is : (w : Arch) → (operandsOf (instructionAt prog w)) .«is_load» ≡ true →
         ((xmAt prog w) .valid && loads (xmAt prog w)) ≡ true
     load-is w z = xm-valid w ∙ ld-at prog w ∙ z
@@ -409,7 +410,7 @@ module _ (prog : Program) (w₀ : Arch) where
     mem-slot : (t n₁ n₂ : ℕ) (left : List ℕ) (l : ExMem) (v : ℕ) → left ≡ (W n₁) .answers →
         ((l .valid && loads l) ≡ true → (isEmpty left ≡ false) × (prog .take (l .«mem_size») (first left) ≡ v))
         → Xm t l n₁ n₂ → Mw (suc t) (memWbOf l v) n₁ n₂
-    unfolding memWbOf destAfter writesAfter valueAfter emptyExMem xmAt exMemOf
+    unfolding memWbOf passedOn destAfter writesAfter valueAfter emptyExMem xmAt exMemOf
     mem-slot t n₁ n₂ left l v a h (gap e) = gap (rw e)
     mem-slot t n₁ n₂ left l v a h (full e d o) = full
         (rw e (mem-at prog (W n₁) v (λ z. (λ j. prog .take ((sym e j) .«mem_size») (first (sym a j))) ∙
@@ -437,41 +438,47 @@ module _ (prog : Program) (w₀ : Arch) where
     module _ (s : PipelineCpu) (t : ℕ) (asked : List Request) (left : List ℕ) (n₁ n₂ : ℕ)
         (mid : Mid s t asked left n₁ n₂) where
       -- the instruction in ID/EX, executed
-      opB-at : (rs : List ℕ) → due prog w₀ n₂ ≡ t + 3 → operandB s (dxAt prog (W n₂) rs) ≡ readReg ((W n₂) .reg)
-          ((operandsOf (I n₂)) .«src_b»)
-      unfolding operandB dxAt idExOf idExBy instructionAt
+      abbrev opB : List ℕ → ℕ
+      opB rs =
+          operandB (s .stages .«ex_mem») (s .stages .«mem_wb») (s .stages .features) (s .reg) (dxAt prog (W n₂) rs)
+
+      opB-at : (rs : List ℕ) → due prog w₀ n₂ ≡ t + 3 → opB rs ≡ readReg ((W n₂) .reg) ((operandsOf (I n₂)) .«src_b»)
+      unfolding operandB forwarded dxAt idExOf idExBy instructionAt
       opB-at rs d = split (ltb 1 ((operandsOf (I n₂)) .«n_srcs»))
-          (λ z. rw z (fwd-mid s t asked left n₁ n₂ mid _ (clear-b (s .«ex_mem») t n₁ n₂ (mid .«ex_mem») d)))
+          (λ z. rw z (fwd-mid s t asked left n₁ n₂ mid _ (clear-b (s .stages .«ex_mem») t n₁ n₂ (mid .«ex_mem») d)))
           (λ z. rw (z, few (I n₂) z) (zero-zero rs ((W n₂) .reg)))
 
       -- what ID/EX does is what the path's instruction does
-      effect-at : (rs : List ℕ) → due prog w₀ n₂ ≡ t + 3 → effectFor s (dxAt prog (W n₂) rs) ≡ effOf prog (W n₂)
-      unfolding effectFor dxAt idExOf idExBy instructionAt effectIn isException effOf effectAt
+      effect-at : (rs : List ℕ) → due prog w₀ n₂ ≡ t + 3 → effectFor (s .stages) (s .reg) (dxAt prog
+          (W n₂) rs) ≡ effOf prog (W n₂)
+      unfolding effectFor effectFrom forwarded dxAt idExOf idExBy instructionAt effectIn isException effOf effectAt
       effect-at rs d =
-          ap (λ (u : Bool). effectOf u (I n₂) ((W n₂) .pc) (forwarded s ((operandsOf (I n₂)) .«src_a»))
-          (operandB s (dxAt prog (W n₂) rs))) (mid .user)
-          ∙ ap (λ (x : ℕ). effectOf (prog .user) (I n₂) ((W n₂) .pc) x (operandB s (dxAt prog (W n₂) rs)))
-          (fwd-mid s t asked left n₁ n₂ mid _ (clear-a (s .«ex_mem») t n₁ n₂ (mid .«ex_mem») d))
+          ap (λ (u : Bool). effectOf u (I n₂) ((W n₂) .pc) (forwarded (s .stages) (s .reg) ((operandsOf
+          (I n₂)) .«src_a»))
+          (opB rs)) (mid .user)
+          ∙ ap (λ (x : ℕ). effectOf (prog .user) (I n₂) ((W n₂) .pc) x (opB rs))
+          (fwd-mid s t asked left n₁ n₂ mid _ (clear-a (s .stages .«ex_mem») t n₁ n₂ (mid .«ex_mem») d))
           ∙ ap (λ (y : ℕ). effectOf (prog .user) (I n₂) ((W n₂) .pc)
           (readReg ((W n₂) .reg) ((operandsOf (I n₂)) .«src_a»)) y) (opB-at rs d)
 
       -- ID/EX, executed
       run : IdEx → ExMem
-      run l = cond (l .valid) (exMemOf l (effectFor s l)) emptyExMem
+      run l = cond (l .valid) (exMemOf l (effectFor (s .stages) (s .reg) l)) emptyExMem
 
       run-at : (rs : List ℕ) → due prog w₀ n₂ ≡ t + 3 → run (dxAt prog (W n₂) rs) ≡ xmAt prog (W n₂)
       unfolding run dxAt idExOf idExBy xmAt
       run-at rs d = ap (λ (e : Effect). exMemOf (dxAt prog (W n₂) rs) e) (effect-at rs d) ∙ latch-at prog (W n₂) rs
           (effOf prog (W n₂))
 
-      execute-at : (rs : List ℕ) → s .«id_ex» ≡ dxAt prog (W n₂) rs → due prog w₀ n₂ ≡ t + 3 → executed s ≡ xmAt
+      execute-at : (rs : List ℕ) → s .stages .«id_ex» ≡ dxAt prog (W n₂) rs → due prog w₀ n₂ ≡ t + 3 → executed
+          (s .stages) (s .reg) ≡ xmAt
           prog (W n₂)
       unfolding executed executedBy run
       execute-at rs e d = ap (λ (l : IdEx). run l) e ∙ run-at rs d
 
       -- the redirect of ID/EX
       bend : IdEx → Redirect
-      bend l = cond (l .valid) (mispredict (l .«predicted_taken») ((effectFor s l) .redirect)
+      bend l = cond (l .valid) (mispredict (l .«predicted_taken») ((effectFor (s .stages) (s .reg) l) .redirect)
           (fall (l .pc) (l .mode)) (l .mode)) Next
 
       bend-at : (rs : List ℕ) → due prog w₀ n₂ ≡ t + 3 → bend (dxAt prog (W n₂) rs) ≡ turnAt prog (W n₂)
@@ -479,27 +486,31 @@ module _ (prog : Program) (w₀ : Arch) where
       bend-at rs d = ap (λ (e : Effect). mispredict (isTo (predictAt prog (W n₂))) (e .redirect)
           (fall ((W n₂) .pc) ((W n₂) .mode)) ((W n₂) .mode)) (effect-at rs d)
 
-      turn-at : (rs : List ℕ) → s .«id_ex» ≡ dxAt prog (W n₂) rs → due prog w₀ n₂ ≡ t + 3 → redirectOf s ≡ turnAt
+      turn-at : (rs : List ℕ) → s .stages .«id_ex» ≡ dxAt prog (W n₂) rs → due prog w₀ n₂ ≡ t + 3 → redirectOf
+          (s .stages) (s .reg) ≡ turnAt
           prog (W n₂)
       unfolding redirectOf redirectBy bend
       turn-at rs e d = ap (λ (l : IdEx). bend l) e ∙ bend-at rs d
 
-      execute-none : s .«id_ex» ≡ emptyIdEx → executed s ≡ emptyExMem
+      execute-none : s .stages .«id_ex» ≡ emptyIdEx → executed (s .stages) (s .reg) ≡ emptyExMem
       unfolding executed executedBy run emptyIdEx
       execute-none e = ap (λ (l : IdEx). run l) e
 
-      redirect-none : s .«id_ex» ≡ emptyIdEx → redirectOf s ≡ Next
+      redirect-none : s .stages .«id_ex» ≡ emptyIdEx → redirectOf (s .stages) (s .reg) ≡ Next
       unfolding redirectOf redirectBy bend emptyIdEx
       redirect-none e = ap (λ (l : IdEx). bend l) e
 
-      assemble : (s′ : PipelineCpu) (v n₃ : ℕ) → (((s .«ex_mem») .valid && loads (s .«ex_mem»)) ≡ true →
-          (isEmpty left ≡ false) × (prog .take ((s .«ex_mem») .«mem_size») (first left) ≡ v))
-          → s′ .running ≡ s .running → s′ .features ≡ s .features → s′ .user ≡ s .user → s′ .«instructions_executed»
+      assemble : (s′ : PipelineCpu) (v n₃ : ℕ) → (((s .stages .«ex_mem») .valid && loads (s .stages .«ex_mem»)) ≡ true →
+          (isEmpty left ≡ false) × (prog .take ((s .stages .«ex_mem») .«mem_size») (first left) ≡ v))
+          → s′ .stages .running ≡ s .stages .running → s′ .stages .features ≡ s .stages .features
+          → s′ .stages .user ≡ s .stages .user → s′ .counts .«instructions_executed»
           ≡
-          s .«instructions_executed» → s′ .reg ≡ s .reg → s′ .«retire_pc» ≡ s .«retire_pc» → s′ .«retire_mode» ≡
-          s .«retire_mode» → s′ .«mem_wb» ≡ memWbOf (s .«ex_mem») v
-          → Xm (suc t) (s′ .«ex_mem») n₂ n₃ → FrontOf s′ (suc t) n₃
-          → Live s′ (suc t) (asked ++ requests (s .«ex_mem»)) (cond ((s .«ex_mem») .valid && loads (s .«ex_mem»))
+          s .counts .«instructions_executed» → s′ .reg ≡ s .reg
+          → s′ .stages .«retire_at» .pc ≡ s .stages .«retire_at» .pc → s′ .stages .«retire_at» .mode ≡
+          s .stages .«retire_at» .mode → s′ .stages .«mem_wb» ≡ memWbOf (s .stages .«ex_mem») v
+          → Xm (suc t) (s′ .stages .«ex_mem») n₂ n₃ → FrontOf s′ (suc t) n₃
+          → Live s′ (suc t) (asked ++ requests (s .stages .«ex_mem»)) (cond ((s .stages .«ex_mem») .valid && loads
+          (s .stages .«ex_mem»))
           (rest left) left) n₁ n₂ n₃
       assemble s′ v n₃ h r1 r2 ru r3 r4 r6 r7 r5 x fr = record {
         running = r1 ∙ mid .running;
@@ -508,135 +519,159 @@ module _ (prog : Program) (w₀ : Arch) where
         count = r3 ∙ mid .count;
         reg = r4 ∙ mid .reg;
         place = (r6 ∙ (mid .place) .0, r7 ∙ (mid .place) .1);
-        «mem_wb» = rw r5 (mem-slot t n₁ n₂ left (s .«ex_mem») v (mid .answers) h (mid .«ex_mem»));
+        «mem_wb» = rw r5 (mem-slot t n₁ n₂ left (s .stages .«ex_mem») v (mid .answers) h (mid .«ex_mem»));
         «ex_mem» = x;
         front = fr;
-        asks = asks-slot t n₁ n₂ asked (s .«ex_mem») (mid .asks) (mid .«ex_mem»);
-        answers = left-slot t n₁ n₂ left (s .«ex_mem») (mid .answers) (mid .«ex_mem»);
+        asks = asks-slot t n₁ n₂ asked (s .stages .«ex_mem») (mid .asks) (mid .«ex_mem»);
+        answers = left-slot t n₁ n₂ left (s .stages .«ex_mem») (mid .answers) (mid .«ex_mem»);
         runs = mid .runs;
       }
 
       -- the moves
-      hazard-none : s .«id_ex» ≡ emptyIdEx → hazard s ≡ false
+      hazard-none : s .stages .«id_ex» ≡ emptyIdEx → hazard (s .stages) ≡ false
       unfolding hazard loadUse emptyIdEx
-      hazard-none e = split ((s .«if_id») .valid)
+      hazard-none e = split ((s .stages .«if_id») .valid)
           (λ z. rw z (ap
           (λ (l : IdEx). l .valid &&
-          (l .«is_load» && isUsed (l .dest) ((operandsOf (decodedOf ((s .«if_id») .raw))) .«src_a»)
-          ((operandsOf (decodedOf ((s .«if_id») .raw))) .«src_b»))) e))
+          (l .«is_load» && isUsed (l .dest) ((operandsOf (decodedOf ((s .stages .«if_id») .raw))) .«src_a»)
+          ((operandsOf (decodedOf ((s .stages .«if_id») .raw))) .«src_b»))) e))
           (λ z. rw z)
 
-      move-is : (a l z w : Bool) (g : Redirect) → s .«ex_armed» ≡ a → ltb 1 (s .«ex_cycles_left») ≡ l → hazard s ≡ z
-          → ((s .«id_ex») .valid && ltb 0 (waits ((s .«id_ex») .decoded))) ≡ w → redirectOf s ≡ g → move s ≡ choose
-          a
-          l z w g
-      unfolding move isSlow
-      move-is a l z w g p1 p2 p3 p4 p5 = cc
+      chosen : moveOf s ≡ choose (s .stages .«ex_armed») (ltb 1 (s .stages .«ex_cycles_left»)) (hazard (s .stages))
+          ((s .stages .«id_ex») .valid && ltb 0 (waits ((s .stages .«id_ex») .decoded))) (redirectOf (s .stages)
+          (s .reg))
+      unfolding move freeMove waitsOn beginsWait isSlow choose
+      chosen = refl
 
-      move-empty : s .«id_ex» ≡ emptyIdEx → s .«ex_armed» ≡ false → move s ≡ proceed
-      unfolding choose chooseFree proceedOr emptyIdEx
-      move-empty e a = move-is false (ltb 1 (s .«ex_cycles_left»)) false false Next a refl (hazard-none e)
+      move-is : (a l z w : Bool) (g : Redirect) → s .stages .«ex_armed» ≡ a → ltb 1
+          (s .stages .«ex_cycles_left») ≡ l → hazard (s .stages) ≡ z
+          → ((s .stages .«id_ex») .valid && ltb 0 (waits ((s .stages .«id_ex») .decoded))) ≡ w → redirectOf
+          (s .stages) (s .reg) ≡ g → moveOf s
+          ≡ choose a l z w g
+      move-is a l z w g p1 p2 p3 p4 p5 = cc chosen
+
+      move-empty : s .stages .«id_ex» ≡ emptyIdEx → s .stages .«ex_armed» ≡ false → moveOf s ≡ proceed
+      unfolding choose moveFrom proceedOr emptyIdEx
+      move-empty e a = move-is false (ltb 1 (s .stages .«ex_cycles_left»)) false false Next a refl (hazard-none e)
           (ap (λ (l : IdEx). l .valid && ltb 0 (waits (l .decoded))) e) (redirect-none e)
 
-      slow-is : (rs : List ℕ) → s .«id_ex» ≡ dxAt prog (W n₂) rs →
-          ((s .«id_ex») .valid && ltb 0 (waits ((s .«id_ex») .decoded))) ≡ ltb 0 (waits (I n₂))
+      slow-is : (rs : List ℕ) → s .stages .«id_ex» ≡ dxAt prog (W n₂) rs →
+          ((s .stages .«id_ex») .valid && ltb 0 (waits ((s .stages .«id_ex») .decoded))) ≡ ltb 0 (waits (I n₂))
       unfolding dxAt idExOf idExBy instructionAt
       slow-is rs e = ap (λ (l : IdEx). l .valid && ltb 0 (waits (l .decoded))) e
 
       -- fetching behind a guess: what stood in IF/ID is decoded
-      place-is : (g : Redirect) (p : ℕ) (m : Mode) → predicted s ≡ g → s .«fetch_pc» ≡ p → s .«fetch_mode» ≡ m →
-          fetchPlace proceed s ≡ (targetOr g p, modeOr g m)
-      unfolding fetchPlace
-      place-is g p m e1 e2 e3 = λ j. (targetOr (e1 j) (e2 j), modeOr (e1 j) (e3 j))
+      place-is : (g : Redirect) (p : ℕ) (m : Mode) → predicted (s .stages .«if_id») ≡ g
+          → s .stages .«fetch_at» .pc ≡ p → s .stages .«fetch_at» .mode ≡ m →
+          fetchPlace proceed (s .stages) ≡ record { pc = targetOr g p; mode = modeOr g m }
+      unfolding fetchPlace fetchFrom placeOr
+      place-is g p m e1 e2 e3 = λ j. record { pc = targetOr (e1 j) (e2 j); mode = modeOr (e1 j) (e3 j) }
 
-      fetched-is : (p : ℕ) (m : Mode) (i : RawInstr) → fetchPlace proceed s ≡ (p, m) → decodedOf i ≡
-          prog .instruction ((fetchPlace proceed s) .0) ((fetchPlace proceed s) .1)
-          → At prog (fetched (s .running) (s .«if_id») (fetchPlace proceed s) i) p m
+      fetched-is : (p : ℕ) (m : Mode) (i : RawInstr) → fetchPlace proceed (s .stages) ≡ record { pc = p; mode = m }
+          → decodedOf i ≡
+          prog .instruction ((fetchPlace proceed (s .stages)) .pc) ((fetchPlace proceed (s .stages)) .mode)
+          → At prog (fetched (s .stages .running) (s .stages .«if_id») (fetchPlace proceed (s .stages)) i) p m
       unfolding fetched
       fetched-is p m i e h = record {
-        valid = ap (λ (b : Bool). (fetched b (s .«if_id») (fetchPlace proceed s) i) .valid) (mid .running);
-        pc = ap (λ (b : Bool). (fetched b (s .«if_id») (fetchPlace proceed s) i) .pc) (mid .running) ∙ ap
-            (λ (q : ℕ × Mode). q .0) e;
-        mode = ap (λ (b : Bool). (fetched b (s .«if_id») (fetchPlace proceed s) i) .mode) (mid .running) ∙ ap
-            (λ (q : ℕ × Mode). q .1) e;
-        instruction = ap (λ (b : Bool). decodedOf ((fetched b (s .«if_id») (fetchPlace proceed s) i) .raw))
-            (mid .running) ∙ h ∙ ap (λ (q : ℕ × Mode). prog .instruction (q .0) (q .1)) e;
+        valid = ap (λ (b : Bool). (fetched b (s .stages .«if_id») (fetchPlace proceed (s .stages)) i) .valid)
+            (mid .running);
+        pc = ap (λ (b : Bool). (fetched b (s .stages .«if_id») (fetchPlace proceed (s .stages)) i) .pc)
+            (mid .running) ∙ ap
+            (λ (q : Place). q .pc) e;
+        mode = ap (λ (b : Bool). (fetched b (s .stages .«if_id») (fetchPlace proceed (s .stages)) i) .mode)
+            (mid .running) ∙ ap
+            (λ (q : Place). q .mode) e;
+        instruction = ap (λ (b : Bool). decodedOf ((fetched b (s .stages .«if_id») (fetchPlace proceed
+            (s .stages)) i) .raw))
+            (mid .running) ∙ h ∙ ap (λ (q : Place). prog .instruction (q .pc) (q .mode)) e;
       }
 
       abbrev OnPath : ℕ → Type 0
-      OnPath m = At prog (s .«if_id») ((W m) .pc) ((W m) .mode)
+      OnPath m = At prog (s .stages .«if_id») ((W m) .pc) ((W m) .mode)
 
-      aim-at : (m : ℕ) → OnPath m → predicted s ≡ predictAt prog (W m)
+      aim-at : (m : ℕ) → OnPath m → predicted (s .stages .«if_id») ≡ predictAt prog (W m)
       unfolding predicted predictAt instructionAt
       aim-at m e = rw (e .valid, e .instruction, e .pc, e .mode)
 
-      next-dx : (m : ℕ) → OnPath m → nextIdEx s ≡ dxAt prog (W m) (s .reg)
+      next-dx : (m : ℕ) → OnPath m → nextIdEx (s .stages) (s .reg) ≡ dxAt prog (W m) (s .reg)
       unfolding nextIdEx decodePredicted dxAt predictAt instructionAt
       next-dx m e = rw (e .valid, e .instruction, e .pc, e .mode)
 
-      fpc-is : (p : ℕ) (m : Mode) → fetchPlace proceed s ≡ (p, m) → cond (s .running)
-          (fall ((fetchPlace proceed s) .0) ((fetchPlace proceed s) .1)) ((fetchPlace proceed s) .0) ≡ fall p m
-      fpc-is p m e = ap (λ (b : Bool). cond b (fall ((fetchPlace proceed s) .0) ((fetchPlace proceed s) .1))
-          ((fetchPlace proceed s) .0)) (mid .running) ∙ ap (λ (q : ℕ × Mode). fall (q .0) (q .1)) e
+      fpc-is : (p : ℕ) (m : Mode) → fetchPlace proceed (s .stages) ≡ record { pc = p; mode = m } → cond
+          (s .stages .running)
+          (fall ((fetchPlace proceed (s .stages)) .pc) ((fetchPlace proceed (s .stages)) .mode))
+          ((fetchPlace proceed (s .stages)) .pc) ≡ fall p m
+      fpc-is p m e = ap (λ (b : Bool). cond b (fall ((fetchPlace proceed (s .stages)) .pc) ((fetchPlace proceed
+          (s .stages)) .mode))
+          ((fetchPlace proceed (s .stages)) .pc)) (mid .running) ∙ ap (λ (q : Place). fall (q .pc) (q .mode)) e
 
-      fetched-ok : (i : RawInstr) → okIn (decodedOf i) ((fetchPlace proceed s) .1) ≡ true → okIn
-          (decodedOf ((fetched (s .running) (s .«if_id») (fetchPlace proceed s) i) .raw))
-          ((fetched (s .running) (s .«if_id») (fetchPlace proceed s) i) .mode) ≡ true
+      fetched-ok : (i : RawInstr) → okIn (decodedOf i) ((fetchPlace proceed (s .stages)) .mode) ≡ true → okIn
+          (decodedOf ((fetched (s .stages .running) (s .stages .«if_id») (fetchPlace proceed (s .stages)) i) .raw))
+          ((fetched (s .stages .running) (s .stages .«if_id») (fetchPlace proceed (s .stages)) i) .mode) ≡ true
       unfolding fetched
-      fetched-ok i o = ap (λ (b : Bool). okIn (decodedOf ((fetched b (s .«if_id») (fetchPlace proceed s) i) .raw))
-          ((fetched b (s .«if_id») (fetchPlace proceed s) i) .mode)) (mid .running) ∙ o
+      fetched-ok i o = ap (λ (b : Bool). okIn (decodedOf ((fetched b (s .stages .«if_id») (fetchPlace proceed
+          (s .stages)) i) .raw))
+          ((fetched b (s .stages .«if_id») (fetchPlace proceed (s .stages)) i) .mode)) (mid .running) ∙ o
 
-      front-flow : (m : ℕ) (inp : Taken) → OnPath m → s .«fetch_pc» ≡ fall ((W m) .pc) ((W m) .mode) →
-          s .«fetch_mode» ≡ (W m) .mode
-          → decodedOf (inp .raw) ≡ prog .instruction ((fetchPlace proceed s) .0) ((fetchPlace proceed s) .1) →
+      front-flow : (m : ℕ) (inp : Taken) → OnPath m → s .stages .«fetch_at» .pc ≡ fall ((W m) .pc) ((W m) .mode) →
+          s .stages .«fetch_at» .mode ≡ (W m) .mode
+          → decodedOf (inp .raw) ≡ prog .instruction ((fetchPlace proceed (s .stages)) .pc) ((fetchPlace proceed
+          (s .stages)) .mode) →
           due prog w₀ m ≡ suc t + 3 + waits (I m) → okAt prog (W m) ≡ true → okIn (decodedOf (inp .raw))
-          ((fetchPlace proceed s) .1) ≡ true
+          ((fetchPlace proceed (s .stages)) .mode) ≡ true
           → FrontOf (advance proceed s inp) (suc t) m
-      unfolding advance advanceBy proceeding nextExMem
+      unfolding advance advanceBy advanceStages idExAfter ifIdAfter isWait waitAfter placeAfter counted stalls
+          flushes placeOr fetchFrom nextExMem
       front-flow m inp e p q h d o oi =
           let pl = place-is (predictAt prog (W m)) (fall ((W m) .pc) ((W m) .mode)) ((W m) .mode) (aim-at m e) p q
           in
           let fe = fetched-is _ _ (inp .raw) pl h in
           f2 (s .reg) (next-dx m e) fe
           (fpc-is _ _ pl ∙ (λ j. fall (sym (fe .pc) j) (sym (fe .mode) j)))
-          (ap (λ (x : ℕ × Mode). x .1) pl ∙ sym (fe .mode))
+          (ap (λ (x : Place). x .mode) pl ∙ sym (fe .mode))
           (λ z. d) (λ z. absurd (false≢true z)) o (fetched-ok (inp .raw) oi)
 
-      aim-none : (s .«if_id») .valid ≡ false → predicted s ≡ Next
+      aim-none : (s .stages .«if_id») .valid ≡ false → predicted (s .stages .«if_id») ≡ Next
       unfolding predicted
       aim-none e = rw e
 
-      front-fetch : (m : ℕ) (inp : Taken) → s .«id_ex» ≡ emptyIdEx → (s .«if_id») .valid ≡ false → s .«fetch_pc» ≡
-          (W m) .pc → s .«fetch_mode» ≡ (W m) .mode
-          → decodedOf (inp .raw) ≡ prog .instruction ((fetchPlace proceed s) .0) ((fetchPlace proceed s) .1) →
+      front-fetch : (m : ℕ) (inp : Taken) → s .stages .«id_ex» ≡ emptyIdEx → (s .stages .«if_id») .valid ≡ false
+          → s .stages .«fetch_at» .pc ≡
+          (W m) .pc → s .stages .«fetch_at» .mode ≡ (W m) .mode
+          → decodedOf (inp .raw) ≡ prog .instruction ((fetchPlace proceed (s .stages)) .pc) ((fetchPlace proceed
+          (s .stages)) .mode) →
           due prog w₀ m ≡ suc t + 4 + waits (I m) → okIn (decodedOf (inp .raw))
-          ((fetchPlace proceed s) .1) ≡ true
+          ((fetchPlace proceed (s .stages)) .mode) ≡ true
           → FrontOf (advance proceed s inp) (suc t) m
-      unfolding advance advanceBy proceeding nextExMem instructionAt targetOr modeOr nextIdEx okAt
+      unfolding advance advanceBy advanceStages idExAfter ifIdAfter isWait waitAfter placeAfter counted stalls
+          flushes placeOr fetchFrom nextExMem instructionAt targetOr modeOr nextIdEx okAt
       front-fetch m inp x e p q h d oi =
           let pl = place-is Next ((W m) .pc) ((W m) .mode) (aim-none e) p q in
           let fe = fetched-is _ _ (inp .raw) pl h in
-          f1 (rw e) fe refl (fpc-is _ _ pl) (ap (λ (x : ℕ × Mode). x .1) pl) d
+          f1 (rw e) fe refl (fpc-is _ _ pl) (ap (λ (x : Place). x .mode) pl) d
           ((λ j. okIn (sym (fe .instruction) j) (sym (fe .mode) j)) ∙ fetched-ok (inp .raw) oi)
 
       -- the way the tick of an instruction in ID/EX ends
       abbrev pub Ahead : Move → Taken → Type 0
-      Ahead m inp = (n₃ : ℕ) × Live (advance m s inp) (suc t) (asked ++ requests (s .«ex_mem»))
-          (cond ((s .«ex_mem») .valid && loads (s .«ex_mem»)) (rest left) left) n₁ n₂ n₃
+      Ahead m inp = (n₃ : ℕ) × Live (advance m s inp) (suc t) (asked ++ requests (s .stages .«ex_mem»))
+          (cond ((s .stages .«ex_mem») .valid && loads (s .stages .«ex_mem»)) (rest left) left) n₁ n₂ n₃
 
-      module _ (inp : Taken) (hv : ((s .«ex_mem») .valid && loads (s .«ex_mem»)) ≡ true → (isEmpty left ≡ false) ×
-          (prog .take ((s .«ex_mem») .«mem_size») (first left) ≡ inp .answer))
-          (hi : (m : Move) → move s ≡ m → fetches m ≡ true → (decodedOf (inp .raw) ≡ prog .instruction
-          ((fetchPlace m s) .0) ((fetchPlace m s) .1)) ×
-          (okIn (decodedOf (inp .raw)) ((fetchPlace m s) .1) ≡ true)) where
-        by-move : (m : Move) → move s ≡ m → Ahead m inp → Ahead (move s) inp
+      module _ (inp : Taken) (hv : ((s .stages .«ex_mem») .valid && loads (s .stages .«ex_mem»)) ≡ true →
+          (isEmpty left ≡ false) ×
+          (prog .take ((s .stages .«ex_mem») .«mem_size») (first left) ≡ inp .answer))
+          (hi : (m : Move) → moveOf s ≡ m → fetches m ≡ true → (decodedOf (inp .raw) ≡ prog .instruction
+          ((fetchPlace m (s .stages)) .pc) ((fetchPlace m (s .stages)) .mode)) ×
+          (okIn (decodedOf (inp .raw)) ((fetchPlace m (s .stages)) .mode) ≡ true)) where
+        by-move : (m : Move) → moveOf s ≡ m → Ahead m inp → Ahead (moveOf s) inp
         by-move m e h = subst (λ (k : Move). Ahead k inp) (sym e) h
 
         -- ID/EX empty
-        go-f0 : s .«id_ex» ≡ emptyIdEx → (s .«if_id») .valid ≡ false → s .«ex_armed» ≡ false → s .«fetch_pc» ≡
-            (W n₂) .pc → s .«fetch_mode» ≡ (W n₂) .mode
-            → due prog w₀ n₂ ≡ t + 5 + waits (I n₂) → Ahead (move s) inp
-        unfolding advance advanceBy proceeding nextExMem fetches
+        go-f0 : s .stages .«id_ex» ≡ emptyIdEx → (s .stages .«if_id») .valid ≡ false
+            → s .stages .«ex_armed» ≡ false → s .stages .«fetch_at» .pc ≡
+            (W n₂) .pc → s .stages .«fetch_at» .mode ≡ (W n₂) .mode
+            → due prog w₀ n₂ ≡ t + 5 + waits (I n₂) → Ahead (moveOf s) inp
+        unfolding advance advanceBy advanceStages idExAfter ifIdAfter isWait waitAfter placeAfter counted stalls
+            flushes placeOr fetchFrom nextExMem fetches
         go-f0 x e a p q d =
             let mv = move-empty x a in
             by-move proceed mv (
@@ -647,10 +682,12 @@ module _ (prog : Program) (w₀ : Arch) where
                   (front-fetch n₂ inp x e p q ((hi proceed mv refl) .0) (omega arith) ((hi proceed mv refl) .1)),
             )
 
-        go-f1 : s .«id_ex» ≡ emptyIdEx → OnPath n₂ → s .«ex_armed» ≡ false → s .«fetch_pc» ≡ fall ((W n₂) .pc)
-            ((W n₂) .mode) → s .«fetch_mode» ≡ (W n₂) .mode
-            → due prog w₀ n₂ ≡ t + 4 + waits (I n₂) → okAt prog (W n₂) ≡ true → Ahead (move s) inp
-        unfolding advance advanceBy proceeding nextExMem fetches
+        go-f1 : s .stages .«id_ex» ≡ emptyIdEx → OnPath n₂ → s .stages .«ex_armed» ≡ false
+            → s .stages .«fetch_at» .pc ≡ fall ((W n₂) .pc)
+            ((W n₂) .mode) → s .stages .«fetch_at» .mode ≡ (W n₂) .mode
+            → due prog w₀ n₂ ≡ t + 4 + waits (I n₂) → okAt prog (W n₂) ≡ true → Ahead (moveOf s) inp
+        unfolding advance advanceBy advanceStages idExAfter ifIdAfter isWait waitAfter placeAfter counted stalls
+            flushes placeOr fetchFrom nextExMem fetches
         go-f1 x e a p q d o =
             let mv = move-empty x a in
             by-move proceed mv (
@@ -662,12 +699,13 @@ module _ (prog : Program) (w₀ : Arch) where
             )
 
         -- ID/EX full: instruction n₂, guessed behind
-        module _ (rs : List ℕ) (dxe : s .«id_ex» ≡ dxAt prog (W n₂) rs)
-            (fde : At prog (s .«if_id») (targetOr (predictAt prog (W n₂)) (fall ((W n₂) .pc) ((W n₂) .mode)))
+        module _ (rs : List ℕ) (dxe : s .stages .«id_ex» ≡ dxAt prog (W n₂) rs)
+            (fde : At prog (s .stages .«if_id») (targetOr (predictAt prog (W n₂)) (fall ((W n₂) .pc) ((W n₂) .mode)))
             (modeOr (predictAt prog (W n₂)) ((W n₂) .mode)))
-            (fpce : s .«fetch_pc» ≡ fall ((s .«if_id») .pc) ((s .«if_id») .mode))
-            (fme : s .«fetch_mode» ≡ (s .«if_id») .mode)
-            (okn : okAt prog (W n₂) ≡ true) (okf : okIn (decodedOf ((s .«if_id») .raw)) ((s .«if_id») .mode) ≡ true)
+            (fpce : s .stages .«fetch_at» .pc ≡ fall ((s .stages .«if_id») .pc) ((s .stages .«if_id») .mode))
+            (fme : s .stages .«fetch_at» .mode ≡ (s .stages .«if_id») .mode)
+            (okn : okAt prog (W n₂) ≡ true) (okf : okIn (decodedOf ((s .stages .«if_id») .raw))
+            ((s .stages .«if_id») .mode) ≡ true)
           where
             -- where the guess holds, IF/ID is on the path
             fd-next : turnAt prog (W n₂) ≡ Next → OnPath (suc n₂)
@@ -680,25 +718,27 @@ module _ (prog : Program) (w₀ : Arch) where
                   fde .instruction ∙ (λ j. prog .instruction (sym (g .0) j) (sym (g .1) j));
             }
 
-            fpc-next : turnAt prog (W n₂) ≡ Next → s .«fetch_pc» ≡ fall ((W (suc n₂)) .pc) ((W (suc n₂)) .mode)
+            fpc-next : turnAt prog (W n₂) ≡ Next → s .stages .«fetch_at» .pc ≡ fall ((W (suc n₂)) .pc) ((W
+                (suc n₂)) .mode)
             fpc-next e = let h = fd-next e in fpce ∙ (λ j. fall (h .pc j) (h .mode j))
 
-            fmode-next : turnAt prog (W n₂) ≡ Next → s .«fetch_mode» ≡ (W (suc n₂)) .mode
+            fmode-next : turnAt prog (W n₂) ≡ Next → s .stages .«fetch_at» .mode ≡ (W (suc n₂)) .mode
             fmode-next e = fme ∙ (fd-next e) .mode
 
             ok-next : turnAt prog (W n₂) ≡ Next → okAt prog (W (suc n₂)) ≡ true
             unfolding okAt instructionAt
             ok-next e = let h = fd-next e in (λ j. okIn (sym (h .instruction) j) (sym (h .mode) j)) ∙ okf
 
-            hazard-load : hazard s ≡ true → (operandsOf (I n₂)) .«is_load» ≡ true
+            hazard-load : hazard (s .stages) ≡ true → (operandsOf (I n₂)) .«is_load» ≡ true
             unfolding hazard loadUse dxAt idExOf idExBy instructionAt
-            hazard-load e = sym (ap (λ (l : IdEx). l .«is_load») dxe) ∙ and-4 ((s .«if_id») .valid)
-                ((s .«id_ex») .valid) ((s .«id_ex») .«is_load») _ e
+            hazard-load e = sym (ap (λ (l : IdEx). l .«is_load») dxe) ∙ and-4 ((s .stages .«if_id») .valid)
+                ((s .stages .«id_ex») .valid) ((s .stages .«id_ex») .«is_load») _ e
 
-            hazard-next : turnAt prog (W n₂) ≡ Next → hazard s ≡ isUsedLoad (I n₂) (I (suc n₂))
+            hazard-next : turnAt prog (W n₂) ≡ Next → hazard (s .stages) ≡ isUsedLoad (I n₂) (I (suc n₂))
             unfolding hazard loadUse dxAt idExOf idExBy instructionAt isUsedLoad
             hazard-next e = let h = fd-next e in
-                (λ j. h .valid j && ((s .«id_ex») .valid && ((s .«id_ex») .«is_load» && isUsed ((s .«id_ex») .dest)
+                (λ j. h .valid j && ((s .stages .«id_ex») .valid && ((s .stages .«id_ex») .«is_load» && isUsed
+                ((s .stages .«id_ex») .dest)
                 ((operandsOf (h .instruction j)) .«src_a») ((operandsOf (h .instruction j)) .«src_b»))))
                 ∙ ap (λ (l : IdEx). l .valid &&
                 (l .«is_load» && isUsed (l .dest) ((operandsOf (I (suc n₂))) .«src_a»)
@@ -710,8 +750,9 @@ module _ (prog : Program) (w₀ : Arch) where
             unfolding isTo bit
             due-next b e h = due-suc n₂ ∙ rw (e, h) (omega arith)
 
-            go-stall : due prog w₀ n₂ ≡ t + 3 → hazard s ≡ true → Ahead (loadUseStall Next) inp
-            unfolding advance advanceBy stalling nextExMem bit isTo targetOr modeOr
+            go-stall : due prog w₀ n₂ ≡ t + 3 → hazard (s .stages) ≡ true → Ahead (loadUseStall Next) inp
+            unfolding advance advanceBy advanceStages idExAfter ifIdAfter isWait waitAfter placeAfter counted stalls
+                flushes placeOr fetchFrom nextExMem bit isTo targetOr modeOr
             go-stall d h =
                 let eo = load-turn prog (W n₂) (hazard-load h) in
                 let dn = due-next true eo (sym (hazard-next eo) ∙ h) in (
@@ -723,10 +764,12 @@ module _ (prog : Program) (w₀ : Arch) where
                       (f1 refl (fd-next eo) refl (fpc-next eo) (fmode-next eo) (omega arith) (ok-next eo)),
                 )
 
-            go-flow : due prog w₀ n₂ ≡ t + 3 → hazard s ≡ false → turnAt prog (W n₂) ≡ Next → move s ≡ proceed →
+            go-flow : due prog w₀ n₂ ≡ t + 3 → hazard (s .stages) ≡ false → turnAt prog (W n₂) ≡ Next
+                → moveOf s ≡ proceed →
                 Ahead
                 proceed inp
-            unfolding advance advanceBy proceeding nextExMem bit fetches
+            unfolding advance advanceBy advanceStages idExAfter ifIdAfter isWait waitAfter placeAfter counted stalls
+                flushes placeOr fetchFrom nextExMem bit fetches
             go-flow d h eo mv =
                 let dn = due-next false eo (sym (hazard-next eo) ∙ h) in (
                   suc n₂,
@@ -744,7 +787,8 @@ module _ (prog : Program) (w₀ : Arch) where
 
             go-flush : due prog w₀ n₂ ≡ t + 3 → (p : ℕ) (m : Mode) → turnAt prog (W n₂) ≡ To p m → Ahead
                 (redirect p m) inp
-            unfolding advance advanceBy redirecting nextExMem cleared walk
+            unfolding advance advanceBy advanceStages idExAfter ifIdAfter isWait waitAfter placeAfter counted stalls
+                flushes placeOr fetchFrom nextExMem cleared walk
             go-flush d p m e =
                 let g = next-turned prog (W n₂) p m e in (
                   suc n₂,
@@ -754,9 +798,10 @@ module _ (prog : Program) (w₀ : Arch) where
                       (f0 refl refl refl (g .0) (g .1) (due-flush p m d e)),
                 )
 
-            go-hold : s .«ex_armed» ≡ true → suc (due prog w₀ n₂) ≡ t + 3 + s .«ex_cycles_left» → 1 <
-                s .«ex_cycles_left» → s .«ex_cycles_left» ≤ waits (I n₂) → Ahead keepWaiting inp
-            unfolding advance advanceBy waiting nextExMem
+            go-hold : s .stages .«ex_armed» ≡ true → suc (due prog w₀ n₂) ≡ t + 3 + s .stages .«ex_cycles_left» → 1 <
+                s .stages .«ex_cycles_left» → s .stages .«ex_cycles_left» ≤ waits (I n₂) → Ahead keepWaiting inp
+            unfolding advance advanceBy advanceStages idExAfter ifIdAfter isWait waitAfter placeAfter counted stalls
+                flushes placeOr fetchFrom nextExMem
             go-hold a d l w = (
               n₂,
               assemble (advance keepWaiting s inp) (inp .answer) n₂ hv refl refl refl refl refl
@@ -766,12 +811,13 @@ module _ (prog : Program) (w₀ : Arch) where
                   (λ z. (omega arith, omega arith, omega arith)) okn okf),
             )
 
-            waits-dx : waits ((s .«id_ex») .decoded) ≡ waits (I n₂)
+            waits-dx : waits ((s .stages .«id_ex») .decoded) ≡ waits (I n₂)
             unfolding dxAt idExOf idExBy instructionAt
             waits-dx = ap (λ (l : IdEx). waits (l .decoded)) dxe
 
             go-arm : due prog w₀ n₂ ≡ t + 3 + waits (I n₂) → 0 < waits (I n₂) → Ahead beginWait inp
-            unfolding advance advanceBy waiting nextExMem
+            unfolding advance advanceBy advanceStages idExAfter ifIdAfter isWait waitAfter placeAfter counted stalls
+                flushes placeOr fetchFrom nextExMem
             go-arm d l = let q = waits-dx in (
               n₂,
               assemble (advance beginWait s inp) (inp .answer) n₂ hv refl refl
@@ -782,9 +828,9 @@ module _ (prog : Program) (w₀ : Arch) where
             )
 
             -- not waiting
-            go-free : s .«ex_armed» ≡ false → due prog w₀ n₂ ≡ t + 3 + waits (I n₂) → Ahead (move s) inp
-            unfolding choose chooseFree proceedOr
-            go-free a d = split (hazard s)
+            go-free : s .stages .«ex_armed» ≡ false → due prog w₀ n₂ ≡ t + 3 + waits (I n₂) → Ahead (moveOf s) inp
+            unfolding choose moveFrom proceedOr
+            go-free a d = split (hazard (s .stages))
                 (λ h. let q = (load-plain false (I n₂) 0 Normal 0 0 (hazard-load h)) .quick in
                 let d3 : due prog w₀ n₂ ≡ t + 3 = omega arith in
                 by-move (loadUseStall Next) (move-is false _ true _ Next a refl h refl
@@ -796,32 +842,33 @@ module _ (prog : Program) (w₀ : Arch) where
                 let d3 : due prog w₀ n₂ ≡ t + 3 = omega arith in
                 let r = turn-at rs dxe d3 in
                 go-cases (turnAt prog (W n₂))
-                (λ e. let mv = move-is false (ltb 1 (s .«ex_cycles_left»)) false false Next a refl h
+                (λ e. let mv = move-is false (ltb 1 (s .stages .«ex_cycles_left»)) false false Next a refl h
                 (slow-is rs dxe ∙ w) (r ∙ e) in by-move proceed mv (go-flow d3 h e mv))
-                (λ p m e. by-move (redirect p m) (move-is false (ltb 1 (s .«ex_cycles_left»)) false false (To p m)
+                (λ p m e. by-move (redirect p m) (move-is false (ltb 1 (s .stages .«ex_cycles_left»)) false false
+                (To p m)
                 a refl h (slow-is rs dxe ∙ w) (r ∙ e)) (go-flush d3 p m e))))
 
-            go-waiting : s .«ex_armed» ≡ true → suc (due prog w₀ n₂) ≡ t + 3 + s .«ex_cycles_left» → 1 ≤
-                s .«ex_cycles_left» → s .«ex_cycles_left» ≤ waits (I n₂) → Ahead (move s) inp
-            unfolding choose chooseDone proceedOr
-            go-waiting a d l w = split (ltb 1 (s .«ex_cycles_left»))
+            go-waiting : s .stages .«ex_armed» ≡ true → suc (due prog w₀ n₂) ≡ t + 3 + s .stages .«ex_cycles_left» → 1 ≤
+                s .stages .«ex_cycles_left» → s .stages .«ex_cycles_left» ≤ waits (I n₂) → Ahead (moveOf s) inp
+            unfolding choose moveFrom proceedOr
+            go-waiting a d l w = split (ltb 1 (s .stages .«ex_cycles_left»))
                 (λ h. by-move keepWaiting (move-is true true _ _ _ a h refl refl refl)
-                (go-hold a d (ltb-true 1 (s .«ex_cycles_left») h) w))
-                (λ h. let z = ltb-false 1 (s .«ex_cycles_left») h in
+                (go-hold a d (ltb-true 1 (s .stages .«ex_cycles_left») h) w))
+                (λ h. let z = ltb-false 1 (s .stages .«ex_cycles_left») h in
                 let d3 : due prog w₀ n₂ ≡ t + 3 = omega arith in
                 let ls : 0 < waits (I n₂) = omega arith in
                 let eo = slow-turn prog (W n₂) ls in
-                split (hazard s)
+                split (hazard (s .stages))
                 (λ hz. absurd (false≢true (sym (slow-load (I n₂) ls) ∙ hazard-load hz)))
                 (λ hz. let mv = move-is true false false (ltb 0 (waits (I n₂))) Next a h hz (slow-is rs dxe)
                 (turn-at rs dxe d3 ∙ eo) in by-move proceed mv (go-flow d3 hz eo mv)))
 
-        go-front : FrontOf s t n₂ → Ahead (move s) inp
+        go-front : FrontOf s t n₂ → Ahead (moveOf s) inp
         go-front (f0 a b c p q d) = go-f0 a b c p q d
         go-front (f1 a b c p q d o) = go-f1 a b c p q d o
-        go-front (f2 rs a b p q u w o o2) = split (s .«ex_armed»)
+        go-front (f2 rs a b p q u w o o2) = split (s .stages .«ex_armed»)
             (λ z. let r = w z in go-waiting rs a b p q o o2 z (r .0) (r .1) (r .2))
             (λ z. go-free rs a b p q o o2 z (u z))
 
-        pub next-live : Ahead (move s) inp
+        pub next-live : Ahead (moveOf s) inp
         next-live = go-front (mid .front)

@@ -6,10 +6,11 @@ pub mod Timing
 pub mod Inv
 pub mod Took
 pub mod Feeding
+pub mod Offers
 pub mod Accuracy
 pub mod Bounds
 pub mod Sense
-pub mod Agree
 pub mod Forwarding
-pub mod Table
+pub mod Asking
+pub mod Example
 pub mod Claims

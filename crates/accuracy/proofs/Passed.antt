@@ -1,8 +1,9 @@
 -- A tick that moved has passed every test. Assumes nothing.
 use mathlib.Core.Bool.{Bool, false, false≢true, true}
 use mathlib.Core.Path.{_≡_, ap, refl}
+use Rattle.pipeline.specs.Refusals.{Tests, pass, test}
+use Rattle.pipeline.specs.Tick.{Result, moved, refused, verdict}
 use Rattle.accuracy.specs.Names.{PipelineCpu}
-use Rattle.pipeline.specs.Tick.{Result, Tests, moved, pass, refused, test, verdict}
 
 -- a tick that moved has passed every test
 unfoldable isMoved : Result → Bool

@@ -6,10 +6,9 @@ use mathlib.Core.Bool.{Bool, _&&_, cond, false, false≢true, not, true}
 use mathlib.Core.List.{List, [], _++_}
 use mathlib.Core.Path.{_∙_, _≡_, ap, refl, sym}
 use Rattle.isa.proofs.Bools.{split}
-use Rattle.isa.proofs.Machine.{walk}
+use Rattle.isa.proofs.Machine.{step, walk}
 use Rattle.isa.specs.Effect.{fall}
-use Rattle.isa.specs.Machine.{Arch, Program, destOf, destWhere, effectAt, first, instructionAt, requestOf, rest}
-use Rattle.isa.specs.Machine.{step, stepBy, valueAt}
+use Rattle.isa.specs.Machine.{Arch, Program, destOf, effectAt, first, instructionAt, requestOf, rest, stepBy, valueAt}
 use Rattle.isa.specs.Operands.{okDest, operandsOf}
 use Rattle.isa.specs.Redirects.{isException, isTo, modeOr, targetOr}
 use Rattle.isa.specs.Registers.{isDest, isNamed, putReg, readReg, writeCpuid, writeReg}
@@ -17,16 +16,15 @@ use Rattle.isa.specs.Short.{decodedOf}
 use Rattle.isa.specs.Waits.{isUsedLoad, waits}
 use Rattle.latch.specs.Decode.{idExBy, idExOf}
 use Rattle.latch.specs.Execute.{exMemOf, mispredict}
-use Rattle.latch.specs.Forwarding.{fromMemWb}
-use Rattle.latch.specs.Memory.{destAfter, loads, memWbOf, requests, stores, valueAfter, writesAfter}
+use Rattle.latch.specs.Forwarding.{cpuidWord, fromMemWb}
+use Rattle.latch.specs.Memory.{destAfter, loads, memWbOf, passedOn, requests, stores, valueAfter, writesAfter}
 use Rattle.latch.specs.Retire.{retireCpuid, retireReg, retiredMode, retiredPc, retiredRegs}
+use Rattle.word.specs.Words.{bit}
 use Rattle.accuracy.proofs.Instructions.{Plain, Stores, force-none, kind, load-plain, mode-stays, settle}
 use Rattle.accuracy.proofs.Instructions.{slow-straight, store-plain, swap-kept, swap-new, turned}
 use Rattle.accuracy.proofs.Registers.{cpuZ-same, fwd-mw, putZ-same, xmRegs, zero-cpu}
 use Rattle.accuracy.specs.Count.{isRedirect, predictAt}
-use Rattle.accuracy.specs.Names.{Dest, Effect, ExMem, IdEx, IfId, MemWb, Mode, Next, NoDest, Redirect, Reg}
-use Rattle.accuracy.specs.Names.{To}
-use Rattle.word.specs.Words.{bit}
+use Rattle.accuracy.specs.Names.{Dest, Effect, ExMem, IdEx, IfId, MemWb, Mode, Next, NoDest, Redirect, Reg, To}
 
 unfoldable pub turnAt : Program → Arch → Redirect
 turnAt prog w = mispredict (isTo (predictAt prog w)) ((effectAt prog (instructionAt prog w) w) .redirect)
@@ -99,24 +97,25 @@ store-facts prog w e = store-plain (prog .user) (instructionAt prog w) (w .pc) _
 
 pub ld-at : (prog : Program) (w : Arch) → loads (xmAt prog w) ≡ (operandsOf (instructionAt prog w)) .«is_load»
 unfolding loads xmAt exMemOf dxAt idExOf idExBy instructionAt
-ld-at prog w = kept (isException ((effOf prog w) .exception)) ((operandsOf (instructionAt prog w)) .«is_load»)
-    (eqb ((effOf prog w) .«mem_size») 0)
+ld-at prog w = kept (isException ((effOf prog w) .marks .exception)) ((operandsOf (instructionAt prog w)) .«is_load»)
+    (eqb ((effOf prog w) .access .«mem_size») 0)
     (λ e. (load-facts prog w e) .exception) (λ e. (load-facts prog w e) .«mem_size»)
 
 pub load-at : (prog : Program) (w : Arch) → (xmAt prog w) .«is_load» ≡
     (operandsOf (instructionAt prog w)) .«is_load»
 unfolding xmAt exMemOf dxAt idExOf idExBy instructionAt
-load-at prog w = kept-1 (isException ((effOf prog w) .exception)) ((operandsOf (instructionAt prog w)) .«is_load»)
+load-at prog w = kept-1 (isException ((effOf prog w) .marks .exception))
+    ((operandsOf (instructionAt prog w)) .«is_load»)
     (λ e. (load-facts prog w e) .exception)
 
 pub st-at : (prog : Program) (w : Arch) → stores (xmAt prog w) ≡ (operandsOf (instructionAt prog w)) .«is_store»
 unfolding stores xmAt exMemOf dxAt idExOf idExBy instructionAt
-st-at prog w = kept (isException ((effOf prog w) .exception)) ((operandsOf (instructionAt prog w)) .«is_store»)
-    (eqb ((effOf prog w) .«mem_size») 0)
+st-at prog w = kept (isException ((effOf prog w) .marks .exception)) ((operandsOf (instructionAt prog w)) .«is_store»)
+    (eqb ((effOf prog w) .access .«mem_size») 0)
     (λ e. (store-facts prog w e) .exception) (λ e. (store-facts prog w e) .«mem_size»)
 
 mem-any : (l : ExMem) (u v : ℕ) → (loads l ≡ true → u ≡ v) → memWbOf l u ≡ memWbOf l v
-unfolding memWbOf destAfter writesAfter valueAfter
+unfolding memWbOf passedOn destAfter writesAfter valueAfter
 mem-any l u v h = split (loads l) (λ e. rw (h e)) (λ e. rw e)
 
 pub mem-at : (prog : Program) (w : Arch) (v : ℕ) →
@@ -143,8 +142,8 @@ drop-dest false d e = refl
 
 store-none : (prog : Program) (w : Arch) → (operandsOf (instructionAt prog w)) .«is_store» ≡ true → isNamed
     (destOf (effOf prog w) ((operandsOf (instructionAt prog w)) .dest)) ≡ false
-unfolding destOf destWhere effectAt effOf
-store-none prog w e = drop-dest ((effOf prog w) .writes) ((operandsOf (instructionAt prog w)) .dest)
+unfolding destOf effectAt effOf
+store-none prog w e = drop-dest ((effOf prog w) .alu .writes) ((operandsOf (instructionAt prog w)) .dest)
     ((store-facts prog w e) .dest)
 
 -- what memory's latch writes, as a function of being a load or a store and of writing
@@ -155,9 +154,9 @@ form ld st wb d x y rs = cond (cond ld true (cond st false wb)) (retireReg (cond
 form-at : (prog : Program) (w : Arch) → retiredRegs (mwAt prog w) (prog .features) (w .reg)
     ≡ form (loads (xmAt prog w)) (stores (xmAt prog w)) ((xmAt prog w) .writeback)
     (destOf (effOf prog w) ((operandsOf (instructionAt prog w)) .dest))
-    (prog .take ((effOf prog w) .«mem_size») (first (w .answers))) ((effOf prog w) .«alu_result»)
-    (retireCpuid ((effOf prog w) .cpuid) (prog .features) (w .reg))
-unfolding form retiredRegs mwAt memWbOf destAfter writesAfter valueAfter xmAt exMemOf dxAt idExOf idExBy
+    (prog .take ((effOf prog w) .access .«mem_size») (first (w .answers))) ((effOf prog w) .alu .value)
+    (retireCpuid ((effOf prog w) .marks .cpuid) (prog .features) (w .reg))
+unfolding form retiredRegs mwAt memWbOf passedOn destAfter writesAfter valueAfter xmAt exMemOf dxAt idExOf idExBy
     instructionAt
 form-at prog w = refl
 
@@ -168,8 +167,8 @@ and-dest false d = refl
 
 wb-at : (prog : Program) (w : Arch) → (xmAt prog w) .writeback ≡ isNamed
     (destOf (effOf prog w) ((operandsOf (instructionAt prog w)) .dest))
-unfolding xmAt exMemOf dxAt idExOf idExBy instructionAt destOf destWhere effOf effectAt
-wb-at prog w = force-none (prog .user) (instructionAt prog w) (w .pc) _ _ ∙ and-dest ((effOf prog w) .writes)
+unfolding xmAt exMemOf dxAt idExOf idExBy instructionAt destOf effOf effectAt
+wb-at prog w = force-none (prog .user) (instructionAt prog w) (w .pc) _ _ ∙ and-dest ((effOf prog w) .alu .writes)
     ((operandsOf (instructionAt prog w)) .dest)
 
 commit-form : (load store : Bool) (d : Dest) (x y : ℕ) (rs : List ℕ) → getD rs 0 0 ≡ 0 →
@@ -186,9 +185,9 @@ pub commit-at : (prog : Program) (w : Arch) → getD (w .reg) 0 0 ≡ 0 → reti
 unfolding step stepBy valueAt effOf
 commit-at prog w z =
     let d = destOf (effOf prog w) ((operandsOf (instructionAt prog w)) .dest) in
-    let rs = writeCpuid ((effOf prog w) .cpuid) (prog .features) (w .reg) in
-    let x = prog .take ((effOf prog w) .«mem_size») (first (w .answers)) in
-    let y = (effOf prog w) .«alu_result» in
+    let rs = writeCpuid ((effOf prog w) .marks .cpuid) (prog .features) (w .reg) in
+    let x = prog .take ((effOf prog w) .access .«mem_size») (first (w .answers)) in
+    let y = (effOf prog w) .alu .value in
     form-at prog w
     ∙ ap (λ (l : List ℕ). form (loads (xmAt prog w)) (stores (xmAt prog w)) ((xmAt prog w) .writeback) d x y l)
     (cpuZ-same _ _ _ z)
@@ -203,7 +202,7 @@ commit-at prog w z =
 xm-form : (prog : Program) (w : Arch) → xmRegs (xmAt prog w) (prog .features) (w .reg)
     ≡ form false false ((xmAt prog w) .writeback)
     (destOf (effOf prog w) ((operandsOf (instructionAt prog w)) .dest))
-    0 ((effOf prog w) .«alu_result») (retireCpuid ((effOf prog w) .cpuid) (prog .features) (w .reg))
+    0 ((effOf prog w) .alu .value) (retireCpuid ((effOf prog w) .marks .cpuid) (prog .features) (w .reg))
 unfolding form xmRegs xmAt exMemOf dxAt idExOf idExBy instructionAt
 xm-form prog w = refl
 
@@ -213,8 +212,8 @@ pub xm-regs-at : (prog : Program) (w : Arch) → getD (w .reg) 0 0 ≡ 0 →
 unfolding step stepBy valueAt effOf
 xm-regs-at prog w z e =
     let d = destOf (effOf prog w) ((operandsOf (instructionAt prog w)) .dest) in
-    let rs = writeCpuid ((effOf prog w) .cpuid) (prog .features) (w .reg) in
-    let y = (effOf prog w) .«alu_result» in
+    let rs = writeCpuid ((effOf prog w) .marks .cpuid) (prog .features) (w .reg) in
+    let y = (effOf prog w) .alu .value in
     xm-form prog w
     ∙ ap (λ (l : List ℕ). form false false ((xmAt prog w) .writeback) d 0 y l) (cpuZ-same _ _ _ z)
     ∙ ap (λ (b : Bool). form false false b d 0 y rs) (wb-at prog w)
@@ -268,12 +267,12 @@ next-turned prog w q n e = turned _ _ _ _ q n e
 -- retirement leaves the fetch mode alone
 pub mode-kept : (prog : Program) (w : Arch) → isTo (turnAt prog w) ≡ false → (k : Mode) → retiredMode (mwAt prog w)
     k ≡ k
-unfolding turnAt predictAt retiredMode mwAt memWbOf destAfter writesAfter valueAfter xmAt exMemOf dxAt idExOf idExBy
-    effectAt instructionAt effOf
+unfolding turnAt predictAt retiredMode mwAt memWbOf passedOn destAfter writesAfter valueAfter xmAt exMemOf dxAt idExOf
+    idExBy effectAt instructionAt effOf
 mode-kept prog w e k = swap-kept (prog .user) (instructionAt prog w) (w .pc) (w .mode) _ _ _ e k
 
 pub mode-new : (prog : Program) (w : Arch) → retiredMode (mwAt prog w) ((step prog w) .mode) ≡ (step prog w) .mode
-unfolding retiredMode mwAt memWbOf destAfter writesAfter valueAfter xmAt exMemOf dxAt idExOf idExBy effectAt
+unfolding retiredMode mwAt memWbOf passedOn destAfter writesAfter valueAfter xmAt exMemOf dxAt idExOf idExBy effectAt
     instructionAt step stepBy effOf
 mode-new prog w = swap-new (prog .user) (instructionAt prog w) (w .pc) (w .mode) _ _
 
@@ -284,28 +283,29 @@ to-or Next f = refl
 to-or (To q n) f = refl
 
 pub pc-at : (prog : Program) (w : Arch) (q : ℕ) → retiredPc (mwAt prog w) q ≡ (step prog w) .pc
-unfolding retiredPc mwAt memWbOf destAfter writesAfter valueAfter xmAt exMemOf dxAt idExOf idExBy effectAt
+unfolding retiredPc mwAt memWbOf passedOn destAfter writesAfter valueAfter xmAt exMemOf dxAt idExOf idExBy effectAt
     instructionAt step stepBy effOf
 pc-at prog w q = to-or ((effOf prog w) .redirect) (fall (w .pc) (w .mode))
 
 pub mode-at : (prog : Program) (w : Arch) → kind (instructionAt prog w) ≡ w .mode → retiredMode (mwAt prog w)
     (w .mode) ≡ (step prog w) .mode
-unfolding retiredMode mwAt memWbOf destAfter writesAfter valueAfter xmAt exMemOf dxAt idExOf idExBy effectAt
+unfolding retiredMode mwAt memWbOf passedOn destAfter writesAfter valueAfter xmAt exMemOf dxAt idExOf idExBy effectAt
     instructionAt step stepBy effOf
 mode-at prog w k = mode-stays (prog .user) (instructionAt prog w) (w .pc) (w .mode) _ _ k
 
 -- forwarding from MEM/WB over the file that it has been written to changes nothing
-same-conds : (p q r : Bool) (x y z v : ℕ) → cond p x (cond q y (cond r z (cond p x (cond q y (cond r z v))))) ≡ cond
-    p x (cond q y (cond r z v))
-same-conds true q r x y z v = refl
-same-conds false true r x y z v = refl
-same-conds false false true x y z v = refl
-same-conds false false false x y z v = refl
+same-word : (p q : Bool) (x f r v : ℕ) → cond p x (cpuidWord q f r (cond p x (cpuidWord q f r v))) ≡ cond p x
+    (cpuidWord q f r v)
+unfolding cpuidWord
+same-word true q x f r v = refl
+same-word false true x f r v = split (eqb 1 r)
+    (λ e. rw e)
+    (λ e. split (eqb 2 r) (λ g. rw (e, g)) (λ g. rw (e, g)))
+same-word false false x f r v = refl
 
 twice : (l : MemWb) (f r v : ℕ) → fromMemWb l f r (fromMemWb l f r v) ≡ fromMemWb l f r v
 unfolding fromMemWb
-twice l f r v = same-conds (l .valid && (l .writeback && isDest (l .dest) r)) (l .valid && (l .cpuid && eqb 1 r))
-    (l .valid && (l .cpuid && eqb 2 r)) (l .value) 0x53524332 f v
+twice l f r v = same-word (l .valid && (l .writeback && isDest (l .dest) r)) (l .valid && l .cpuid) (l .value) f r v
 
 pub settled : (l : MemWb) (f : ℕ) (rs : List ℕ) (r : ℕ) → okDest (l .dest) ≡ true → length rs ≡ 32 → eqb r 0 ≡ false
     → fromMemWb l f r (readReg (retiredRegs l f rs) r) ≡ readReg (retiredRegs l f rs) r

@@ -11,7 +11,7 @@ use native.Mathlib.Omega.{arith}
 use Rattle.isa.proofs.Bools.{split}
 use Rattle.isa.specs.Operands.{okDest}
 use Rattle.isa.specs.Registers.{isDest, isReg, putReg, readReg, writeCpuid, writeReg}
-use Rattle.latch.specs.Forwarding.{fromExMem, fromMemWb}
+use Rattle.latch.specs.Forwarding.{cpuidWord, forwardFrom, fromExMem, fromMemWb}
 use Rattle.latch.specs.Retire.{retireCpuid, retireReg, retiredRegs}
 use Rattle.pipeline.specs.Forwarding.{forwarded}
 use Rattle.accuracy.specs.Names.{Dest, ExMem, MemWb, NoDest, PipelineCpu, Reg}
@@ -84,8 +84,8 @@ read-putZ (Reg d) v rs r h n z =
     read-zero (writeReg (Reg d) v rs) r (length-put (Reg d) v rs ∙ n) z ∙ read-put (Reg d) v rs r h n z
 
 pub read-cpuZ : (c : Bool) (f : ℕ) (rs : List ℕ) (r : ℕ) → length rs ≡ 32 → eqb r 0 ≡ false
-    → readReg (retireCpuid c f rs) r ≡ cond (c && eqb 1 r) 0x53524332 (cond (c && eqb 2 r) f (readReg rs r))
-unfolding retireCpuid
+    → readReg (retireCpuid c f rs) r ≡ cpuidWord c f r (readReg rs r)
+unfolding retireCpuid cpuidWord
 read-cpuZ false f rs r n z = refl
 read-cpuZ true f rs r n z =
     read-zero (set (set rs 1 0x53524332) 2 f) r (simp length-set n) z
@@ -129,9 +129,9 @@ cpuZ-same true f rs e = zero-same (writeCpuid true f rs) (zero-cpu true f rs e)
 -- the forwarding law, latch by latch
 mw-law : (valid wb c : Bool) (d : Dest) (val f : ℕ) (rs : List ℕ) (r : ℕ) → okDest d ≡ true → length rs ≡ 32 → eqb r
     0 ≡ false
-    → cond (valid && (wb && isDest d r)) val (cond (valid && (c && eqb 1 r)) 0x53524332
-    (cond (valid && (c && eqb 2 r)) f (readReg rs r)))
+    → cond (valid && (wb && isDest d r)) val (cpuidWord (valid && c) f r (readReg rs r))
     ≡ readReg (cond valid (cond wb (retireReg d val (retireCpuid c f rs)) (retireCpuid c f rs)) rs) r
+unfolding cpuidWord
 mw-law false wb c d val f rs r h n z = refl
 mw-law true false c d val f rs r h n z = sym (read-cpuZ c f rs r n z)
 mw-law true true c d val f rs r h n z =
@@ -157,8 +157,8 @@ fwd-xm l f rs r h n z e = rw e (mw-law (l .valid) (l .writeback) (l .cpuid) (l .
     z)
 
 xm-load : (valid wb c : Bool) (d : Dest) (val f : ℕ) (v r : ℕ) → c ≡ false
-    → cond (valid && (wb && (false && isDest d r))) val (cond (valid && (c && eqb 1 r)) 0x53524332
-    (cond (valid && (c && eqb 2 r)) f v)) ≡ v
+    → cond (valid && (wb && (false && isDest d r))) val (cpuidWord (valid && c) f r v) ≡ v
+unfolding cpuidWord
 xm-load false wb c d val f v r e = refl
 xm-load true false true d val f v r e = cc
 xm-load true false false d val f v r e = refl
@@ -189,14 +189,17 @@ pub zero-read : (rs : List ℕ) (r : ℕ) → eqb r 0 ≡ true → 0 ≡ readReg
 unfolding readReg
 zero-read rs r z = rw (zero-reg r z)
 
-pub fwd-law : (s : PipelineCpu) (r : ℕ) → okDest (s .«mem_wb» .dest) ≡ true → okDest (s .«ex_mem» .dest) ≡ true →
-    length (s .reg) ≡ 32 → s .«ex_mem» .«is_load» ≡ false
-    → forwarded s r ≡ readReg (xmRegs (s .«ex_mem») (s .features) (retiredRegs (s .«mem_wb») (s .features)
+pub fwd-law : (s : PipelineCpu) (r : ℕ) → okDest (s .stages .«mem_wb» .dest) ≡ true
+    → okDest (s .stages .«ex_mem» .dest) ≡ true →
+    length (s .reg) ≡ 32 → s .stages .«ex_mem» .«is_load» ≡ false
+    → forwarded (s .stages) (s .reg) r ≡ readReg
+    (xmRegs (s .stages .«ex_mem») (s .stages .features) (retiredRegs (s .stages .«mem_wb») (s .stages .features)
     (s .reg)))
     r
-unfolding forwarded
+unfolding forwarded forwardFrom
 fwd-law s r h k n e = split (eqb r 0)
     (λ z. rw z (zero-read _ r z))
-    (λ z. rw (z, fwd-mw (s .«mem_wb») (s .features) (s .reg) r h n z)
-    (fwd-xm (s .«ex_mem») (s .features) (retiredRegs (s .«mem_wb») (s .features) (s .reg)) r k
-    (length-wb (s .«mem_wb») (s .features) (s .reg) ∙ n) z e))
+    (λ z. rw (z, fwd-mw (s .stages .«mem_wb») (s .stages .features) (s .reg) r h n z)
+    (fwd-xm (s .stages .«ex_mem») (s .stages .features)
+    (retiredRegs (s .stages .«mem_wb») (s .stages .features) (s .reg)) r k
+    (length-wb (s .stages .«mem_wb») (s .stages .features) (s .reg) ∙ n) z e))

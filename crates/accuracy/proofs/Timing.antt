@@ -7,12 +7,11 @@ use Rattle.isa.proofs.Machine.{did-walk, walk}
 use Rattle.isa.specs.Machine.{Arch, Program, instructionAt, machine}
 use Rattle.isa.specs.Redirects.{isTo}
 use Rattle.isa.specs.Waits.{isDiv, isMul, isUsedLoad, waits}
+use Rattle.word.specs.Words.{bit}
 use Rattle.accuracy.proofs.Instructions.{slow-load, slow-one, waits-is}
 use Rattle.accuracy.proofs.Path.{due, slow-turn, swerve-turn}
-use Rattle.accuracy.specs.Count.{count, divides, isRedirect, multiplies, path, redirects, retireTick}
-use Rattle.accuracy.specs.Count.{usedLoads}
+use Rattle.accuracy.specs.Count.{count, divides, isRedirect, multiplies, path, redirects, retireTick, usedLoads}
 use Rattle.accuracy.specs.Names.{Decoded, Redirect}
-use Rattle.word.specs.Words.{bit}
 
 pub count-same : (p q : ℕ → Bool) (k : ℕ) → ((n : ℕ) → n < k → p n ≡ q n) → count p k ≡ count q k
 unfolding count

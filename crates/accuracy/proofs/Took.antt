@@ -1,45 +1,56 @@
 -- What an accepted tick tells. Assumes nothing.
 use mathlib.Core.Bool.{Bool, false, true}
 use mathlib.Core.List.{[], _∷_}
-use mathlib.Core.Path.{_≡_, refl}
+use mathlib.Core.Path.{_≡_, ap, refl}
+use borrow.Author.Tests.{ltb-false}
+use native.Mathlib.Omega.{arith}
 use Rattle.isa.proofs.Bools.{un-not}
-use Rattle.isa.specs.Operands.{okOperands, operandsN}
+use Rattle.isa.proofs.NoCode.{no-code}
+use Rattle.isa.specs.Refusals.{isOf, rawCode}
 use Rattle.isa.specs.Short.{decodedOf}
 use Rattle.latch.specs.Retire.{halts}
+use Rattle.pipeline.specs.Advance.{advance, advanceBy, advanceStages, next}
+use Rattle.pipeline.specs.Ask.{fetchAt, wantFetch, wantLoad}
+use Rattle.pipeline.specs.Counting.{countRetired, counted, counterFull}
+use Rattle.pipeline.specs.Refusals.{andThen, faulty, outOfBounds, stateTests}
+use Rattle.pipeline.specs.Retire.{retire, retireStages}
+use Rattle.pipeline.specs.Tick.{fitsOffer, givenTests, isAnswer, moved, offerCode, rawOf, same, taken, tests, tick}
+use Rattle.pipeline.specs.Tick.{verdict, wordIn}
 use Rattle.accuracy.proofs.Instructions.{okIn}
 use Rattle.accuracy.proofs.Passed.{Passed, passed}
-use Rattle.accuracy.specs.Accuracy.{said}
-use Rattle.pipeline.specs.Advance.{Taken, advance, advanceBy, next, proceeding, redirecting, stalling, waiting}
-use Rattle.pipeline.specs.Ask.{fetchAt, stuck, wantFetch, wantLoad}
-use Rattle.pipeline.specs.Move.{nextExMem}
-use Rattle.accuracy.specs.Names.{Answer, Given, Instr, Mode, Move, NoAnswer, Normal, Nothing, Offer}
-use Rattle.accuracy.specs.Names.{PipelineCpu, RawNormal, RawShort, Short, Word, beginWait, keepWaiting}
-use Rattle.accuracy.specs.Names.{loadUseStall, proceed, redirect}
-use Rattle.pipeline.specs.Retire.{retire}
-use Rattle.pipeline.specs.Tick.{badOffer, fitsOffer, givenTests, isAnswer, moved, rawOf, same, taken, tests}
-use Rattle.pipeline.specs.Tick.{tick, wordIn}
+use Rattle.accuracy.specs.Accuracy.{wordList}
+use Rattle.accuracy.specs.Names.{Answer, Given, Instr, Mode, Move, NoAnswer, Normal, Nothing, Offer, PipelineCpu}
+use Rattle.accuracy.specs.Names.{RawNormal, RawShort, Short, Taken, Word}
 
--- what an accepted tick tells
+-- what an accepted tick tells: no refusal holds, and the state is the next one
 pub record Took (s : PipelineCpu) (t : Given) (s′ : PipelineCpu) : Type 0 where
-  pub sound : stuck s ≡ false
-  pub fair : badOffer (t .offer) ≡ false
-  pub fetch : fitsOffer (wantFetch s) ((fetchAt s) .1) (t .offer) ≡ true
-  pub «is_load» : same (wantLoad s) (isAnswer (t .answer)) ≡ true
+  pub bounds : outOfBounds (s .stages) ≡ false
+  pub sound : faulty (s .stages) ≡ false
+  pub room : counterFull (s .counts) ≡ false
+  pub fair : offerCode (t .offer) ≡ 0
+  pub fetch : fitsOffer (wantFetch s) ((fetchAt s) .mode) (t .offer) ≡ true
+  pub «is_load» : same (wantLoad (s .stages)) (isAnswer (t .answer)) ≡ true
   pub is : next s (taken t) ≡ s′
 
 pub took : (s : PipelineCpu) (t : Given) (s′ : PipelineCpu) → tick s t ≡ moved s′ → Took s t s′
-unfolding tick tests givenTests Passed
+unfolding tick tests stateTests andThen givenTests Passed
 took s t s′ e =
     let r = passed (tests s t) (next s (taken t)) s′ e in
-    let p = r .0 .1 in
+    let p = r .0 in
     record {
-      sound = p .0;
-      fair = p .1 .1 .0;
+      bounds = p .0;
+      sound = p .1 .0;
+      room = p .1 .1 .0;
+      fair = let z = ltb-false 0 (offerCode (t .offer)) (p .1 .1 .1 .0) in omega arith;
       fetch = un-not _ (p .1 .1 .1 .1 .0);
-      «is_load» = un-not _
-          (p .1 .1 .1 .1 .1 .0);
+      «is_load» = un-not _ (p .1 .1 .1 .1 .1 .0);
       is = r .1;
     }
+
+-- a tick that no refusal holds of is accepted
+pub takes : (s : PipelineCpu) (t : Given) (s′ : PipelineCpu) → Took s t s′ → tick s t ≡ moved s′
+unfolding tick tests stateTests andThen givenTests verdict
+takes s t s′ k = rw (k .bounds, k .sound, k .room, k .fair, k .fetch, k .«is_load») (ap moved (k .is))
 
 -- an offer or an answer that is there
 pub offer-is : (o : Offer) (b : Bool) (m : Mode) → fitsOffer b m o ≡ true → b ≡ true → o ≡ Instr (rawOf o)
@@ -48,72 +59,54 @@ offer-is Nothing true m e z = cc
 offer-is Nothing false m e z = cc
 offer-is (Instr i) b m e z = refl
 
-pub offer-ok : (o : Offer) (b : Bool) (m : Mode) → fitsOffer b m o ≡ true → b ≡ true → badOffer o ≡ false → okIn
-    (decodedOf (rawOf o)) m ≡ true
-unfolding fitsOffer badOffer rawOf okIn decodedOf
+pub offer-ok : (o : Offer) (b : Bool) (m : Mode) → fitsOffer b m o ≡ true → b ≡ true → offerCode o ≡ 0
+    → okIn (decodedOf (rawOf o)) m ≡ true
+unfolding fitsOffer isOf offerCode rawCode rawOf okIn decodedOf
 offer-ok Nothing true m e z h = cc
 offer-ok Nothing false m e z h = cc
-offer-ok (Instr (RawNormal i)) true Normal e z h = un-not (okOperands (operandsN i)) h
+offer-ok (Instr (RawNormal i)) true Normal e z h = no-code i h .0
 offer-ok (Instr (RawNormal i)) true Short e z h = cc
 offer-ok (Instr (RawShort i)) true Normal e z h = cc
 offer-ok (Instr (RawShort i)) true Short e z h = refl
 offer-ok (Instr i) false m e z h = cc
 
-pub answer-is : (o : Answer) (b : Bool) → same b (isAnswer o) ≡ true → b ≡ true → said o ≡ wordIn o ∷ []
-unfolding isAnswer wordIn same said
+pub answer-is : (o : Answer) (b : Bool) → same b (isAnswer o) ≡ true → b ≡ true → wordList o ≡ wordIn o ∷ []
+unfolding isAnswer wordIn same wordList
 answer-is NoAnswer true e z = cc
 answer-is NoAnswer false e z = cc
 answer-is (Word v) b e z = refl
 
-pub answer-none : (o : Answer) (b : Bool) → same b (isAnswer o) ≡ true → b ≡ false → said o ≡ []
-unfolding isAnswer same said
+pub answer-none : (o : Answer) (b : Bool) → same b (isAnswer o) ≡ true → b ≡ false → wordList o ≡ []
+unfolding isAnswer same wordList
 answer-none NoAnswer b e z = refl
 answer-none (Word v) true e z = cc
 answer-none (Word v) false e z = cc
 
-pub retire-off : (s : PipelineCpu) → halts (s .«mem_wb») ≡ true → (retire s) .running ≡ false
-unfolding retire
+pub retire-off : (s : PipelineCpu) → halts (s .stages .«mem_wb») ≡ true → (retire s) .stages .running ≡ false
+unfolding retire retireStages countRetired
 retire-off s e = rw e
 
 -- what every move leaves alone
-pub advance-running : (m : Move) (s : PipelineCpu) (inp : Taken) → (advance m s inp) .running ≡ s .running
-unfolding advance advanceBy waiting stalling proceeding redirecting nextExMem
-advance-running keepWaiting s inp = refl
-advance-running beginWait s inp = refl
-advance-running (loadUseStall g) s inp = refl
-advance-running proceed s inp = refl
-advance-running (redirect p m) s inp = refl
+pub advance-running : (m : Move) (s : PipelineCpu) (inp : Taken)
+    → (advance m s inp) .stages .running ≡ s .stages .running
+unfolding advance advanceStages advanceBy
+advance-running m s inp = refl
 
-pub advance-retired : (m : Move) (s : PipelineCpu) (inp : Taken) → (advance m s inp) .«instructions_executed» ≡
-    s .«instructions_executed»
-unfolding advance advanceBy waiting stalling proceeding redirecting nextExMem
-advance-retired keepWaiting s inp = refl
-advance-retired beginWait s inp = refl
-advance-retired (loadUseStall g) s inp = refl
-advance-retired proceed s inp = refl
-advance-retired (redirect p m) s inp = refl
+pub advance-retired : (m : Move) (s : PipelineCpu) (inp : Taken) → (advance m s inp) .counts .«instructions_executed» ≡
+    s .counts .«instructions_executed»
+unfolding advance counted
+advance-retired m s inp = refl
 
 pub advance-regs : (m : Move) (s : PipelineCpu) (inp : Taken) → (advance m s inp) .reg ≡ s .reg
-unfolding advance advanceBy waiting stalling proceeding redirecting nextExMem
-advance-regs keepWaiting s inp = refl
-advance-regs beginWait s inp = refl
-advance-regs (loadUseStall g) s inp = refl
-advance-regs proceed s inp = refl
-advance-regs (redirect p m) s inp = refl
+unfolding advance
+advance-regs m s inp = refl
 
-pub advance-retire-pc : (m : Move) (s : PipelineCpu) (inp : Taken) → (advance m s inp) .«retire_pc» ≡ s .«retire_pc»
-unfolding advance advanceBy waiting stalling proceeding redirecting nextExMem
-advance-retire-pc keepWaiting s inp = refl
-advance-retire-pc beginWait s inp = refl
-advance-retire-pc (loadUseStall g) s inp = refl
-advance-retire-pc proceed s inp = refl
-advance-retire-pc (redirect p m) s inp = refl
+pub advance-retire-pc : (m : Move) (s : PipelineCpu) (inp : Taken)
+    → (advance m s inp) .stages .«retire_at» .pc ≡ s .stages .«retire_at» .pc
+unfolding advance advanceStages advanceBy
+advance-retire-pc m s inp = refl
 
-pub advance-retire-mode : (m : Move) (s : PipelineCpu) (inp : Taken) → (advance m s inp) .«retire_mode» ≡
-    s .«retire_mode»
-unfolding advance advanceBy waiting stalling proceeding redirecting nextExMem
-advance-retire-mode keepWaiting s inp = refl
-advance-retire-mode beginWait s inp = refl
-advance-retire-mode (loadUseStall g) s inp = refl
-advance-retire-mode proceed s inp = refl
-advance-retire-mode (redirect p m) s inp = refl
+pub advance-retire-mode : (m : Move) (s : PipelineCpu) (inp : Taken) → (advance m s inp) .stages .«retire_at» .mode ≡
+    s .stages .«retire_at» .mode
+unfolding advance advanceStages advanceBy
+advance-retire-mode m s inp = refl

@@ -1,16 +1,18 @@
--- Demand 3: one claim about a whole list of ticks, from a fresh state.
+-- RULES 15.3 to 15.8: one claim about a whole list of ticks, from a fresh state.
 use Prim.Native.Nat.{_*_, _+_, _≤_, suc, ℕ}
+use lib.Dec.{eqb}
 use lib.ListN.{length, set}
+use mathlib.Core.Bool.{Bool, _&&_, cond, false, true}
 use mathlib.Core.List.{List, [], _++_, _∷_}
 use mathlib.Core.Path.{_≡_}
 use Rattle.isa.specs.Machine.{Arch, Program, machine}
 use Rattle.isa.specs.Short.{decodedOf}
-use Rattle.latch.specs.Memory.{requests}
 use Rattle.pipeline.specs.Ask.{asks, fetchAt}
-use Rattle.accuracy.specs.Count.{path, retireTick}
-use Rattle.accuracy.specs.Names.{Answer, Given, Instr, Mode, NoAnswer, PipelineCpu, RawInstr, Request, Word}
 use Rattle.pipeline.specs.Start.{fresh}
 use Rattle.pipeline.specs.Tick.{Result, moved, refused, tick}
+use Rattle.accuracy.specs.Count.{path, retireTick}
+use Rattle.accuracy.specs.Names.{Answer, DecNormal, Decoded, Given, Instr, Mode, NoAnswer, Nop, Normal, Nothing}
+use Rattle.accuracy.specs.Names.{Offer, PipelineCpu, Place, Request, Short, Word}
 
 -- a list of ticks so far: the state handed back, the accepted ticks, the requests asked for in them
 pub record Run : Type 0 where
@@ -22,7 +24,7 @@ pub record Run : Type 0 where
 unfoldable pub oneBy : Result → Given → Run → Run
 oneBy (refused c) t r = r
 oneBy (moved s) t r =
-    record { state = s; accepted = suc (r .accepted); requests = r .requests ++ asks (r .state) }
+    record { state = s; accepted = suc (r .accepted); requests = r .requests ++ asks ((r .state) .stages) }
 
 unfoldable pub one : Run → Given → Run
 one r t = oneBy (tick (r .state) t) t r
@@ -32,45 +34,56 @@ after r [] = r
 after r (t ∷ ts) = after (one r t) ts
 
 -- the accepted ticks' answers, in order; a refused tick feeds the machine nothing
-unfoldable pub said : Answer → List ℕ
-said NoAnswer = []
-said (Word v) = v ∷ []
+unfoldable pub wordList : Answer → List ℕ
+wordList NoAnswer = []
+wordList (Word v) = v ∷ []
 
 unfoldable pub fed : Result → Given → List ℕ
 fed (refused c) t = []
-fed (moved s) t = said (t .answer)
+fed (moved s) t = wordList (t .answer)
 
 unfoldable pub answers : Run → List Given → List ℕ
 answers r [] = []
 answers r (t ∷ ts) = fed (tick (r .state) t) t ++ answers (one r t) ts
 
--- a tick on state s that answers from a program: its offer, decoded, is the instruction of its address and mode
-pub record Meets (prog : Program) (s : PipelineCpu) (t : Given) : Type 0 where
-  pub offer : (i : RawInstr) → t .offer ≡ Instr i → decodedOf i ≡ prog .instruction ((fetchAt s) .0)
-      ((fetchAt s) .1)
+-- the instructions offered to accepted ticks, each with the address and mode that it was fetched from
+unfoldable pub offeredBy : Result → Offer → Place → List (Place × Decoded) → List (Place × Decoded)
+offeredBy (refused c) o p l = l
+offeredBy (moved s) Nothing p l = l
+offeredBy (moved s) (Instr i) p l = (p, decodedOf i) ∷ l
 
--- an address and mode always offer accepted ticks the same instruction
-unfoldable pub Offers : Program → Run → List Given → Type 0
-Offers prog r [] = Unit {0}
-Offers prog r (t ∷ ts) =
-    ((s : PipelineCpu) → tick (r .state) t ≡ moved s → Meets prog (r .state) t) × Offers prog (one r t) ts
+unfoldable pub offered : Run → List Given → List (Place × Decoded)
+offered r [] = []
+offered r (t ∷ ts) = offeredBy (tick (r .state) t) (t .offer) (fetchAt (r .state)) (offered (one r t) ts)
 
--- a load takes its answer whole, at every width
-unfoldable pub TakesWhole : Program → Type 0
-TakesWhole prog = (w v : ℕ) → prog .take w v ≡ v
+-- each of them is the one that f has for its address and mode
+unfoldable pub Agree : (ℕ → Mode → Decoded) → List (Place × Decoded) → Type 0
+Agree f [] = Unit {0}
+Agree f (x ∷ l) = (f (x .0 .pc) (x .0 .mode) ≡ x .1) × Agree f l
+
+unfoldable pub sameMode : Mode → Mode → Bool
+sameMode Normal Normal = true
+sameMode Normal Short = false
+sameMode Short Normal = false
+sameMode Short Short = true
+
+-- the first of them for address p and mode m, or a NOP
+unfoldable pub firstOffer : List (Place × Decoded) → ℕ → Mode → Decoded
+firstOffer [] p m = DecNormal Nop
+firstOffer (x ∷ l) p m = cond (eqb p (x .0 .pc) && sameMode m (x .0 .mode)) (x .1) (firstOffer l p m)
+
+-- a program by its instructions, whose loads take their answers whole, at every width
+abbrev pub wholeProgram : Bool → ℕ → (ℕ → Mode → Decoded) → Program
+wholeProgram user features f = record { instruction = f; user = user; features = features; take = λ w v. v }
 
 -- the run before its first tick
-unfoldable pub begin : Program → List ℕ → ℕ → Mode → Run
-begin prog regs pc mode =
-    record { state = fresh regs pc mode (prog .user) (prog .features); accepted = 0; requests = [] }
+unfoldable pub begin : List ℕ → ℕ → Mode → Bool → ℕ → Run
+begin regs pc mode user features =
+    record { state = fresh regs pc mode user features; accepted = 0; requests = [] }
 
--- the one-at-a-time machine before its first step, with a list of answers
+-- the one-at-a-time machine before its first step, fed a list of answers
 unfoldable pub archWith : List ℕ → ℕ → Mode → List ℕ → Arch
 archWith regs pc mode l = record { reg = set regs 0 0; pc = pc; mode = mode; answers = l; requests = [] }
-
--- the same with the answers of a list of ticks
-unfoldable pub arch : Program → List ℕ → ℕ → Mode → List Given → Arch
-arch prog regs pc mode ts = archWith regs pc mode (answers (begin prog regs pc mode) ts)
 
 -- The N-th retirement in a list: the tick `here` raises the retired count from N - 1 to N. Its number is exact and
 -- at most 16N + 4; the registers after it are the machine's after N instructions, all done; the requests of earlier
@@ -80,20 +93,32 @@ pub record Retires (prog : Program) (w : Arch) (r : Run) (ts : List Given) (N : 
   pub here : Given
   pub post : List Given
   pub split : ts ≡ pre ++ here ∷ post
-  pub before : suc ((after r pre) .state .«instructions_executed») ≡ N
-  pub now : (one (after r pre) here) .state .«instructions_executed» ≡ N
+  pub before : suc ((after r pre) .state .counts .«instructions_executed») ≡ N
+  pub now : (one (after r pre) here) .state .counts .«instructions_executed» ≡ N
   pub due : (one (after r pre) here) .accepted ≡ retireTick prog (λ n. path prog w n) N
   pub soon : (one (after r pre) here) .accepted ≤ 16 * N + 4
   pub reg : (one (after r pre) here) .state .reg ≡ (machine prog w N) .arch .reg
   pub did : (machine prog w N) .done ≡ N
   pub requests : (after r pre) .requests ≡ (machine prog w N) .arch .requests
-  pub place : ((one (after r pre) here) .state .«retire_pc» ≡ (machine prog w N) .arch .pc)
-      × ((one (after r pre) here) .state .«retire_mode» ≡ (machine prog w N) .arch .mode)
+  pub place : ((one (after r pre) here) .state .stages .«retire_at» .pc ≡ (machine prog w N) .arch .pc)
+      × ((one (after r pre) here) .state .stages .«retire_at» .mode ≡ (machine prog w N) .arch .mode)
 
--- Demand 3
+-- RULES 15.6: where an address and mode always offer accepted ticks the same instruction, the one offered first
 abbrev pub Demand3 : Type 0
 Demand3 =
-    (prog : Program) (regs : List ℕ) (pc : ℕ) (mode : Mode) → TakesWhole prog → length regs ≡ 32 → (ts : List Given)
-    → Offers prog (begin prog regs pc mode) ts
-    → (N : ℕ) → 1 ≤ N → N ≤ (after (begin prog regs pc mode) ts) .state .«instructions_executed»
-    → Retires prog (arch prog regs pc mode ts) (begin prog regs pc mode) ts N
+    (regs : List ℕ) (pc : ℕ) (mode : Mode) (user : Bool) (features : ℕ) (ts : List Given) → length regs ≡ 32
+    → let r = begin regs pc mode user features in
+    let f = firstOffer (offered r ts) in
+    Agree f (offered r ts)
+    → (N : ℕ) → 1 ≤ N → N ≤ (after r ts) .state .counts .«instructions_executed»
+    → Retires (wholeProgram user features f) (archWith regs pc mode (answers r ts)) r ts N
+
+-- the same for any instructions that the accepted offers agree with, whatever stands where none was offered
+abbrev pub Demand3For : Type 0
+Demand3For =
+    (f : ℕ → Mode → Decoded) (regs : List ℕ) (pc : ℕ) (mode : Mode) (user : Bool) (features : ℕ) (ts : List Given)
+    → length regs ≡ 32
+    → let r = begin regs pc mode user features in
+    Agree f (offered r ts)
+    → (N : ℕ) → 1 ≤ N → N ≤ (after r ts) .state .counts .«instructions_executed»
+    → Retires (wholeProgram user features f) (archWith regs pc mode (answers r ts)) r ts N

@@ -4,8 +4,8 @@ use mathlib.Core.Bool.{Bool, cond, not}
 use Rattle.isa.specs.Machine.{Arch, Program, effectAt, instructionAt, machine}
 use Rattle.isa.specs.Redirects.{isTo}
 use Rattle.isa.specs.Waits.{isDiv, isMul, isUsedLoad, predict}
-use Rattle.accuracy.specs.Names.{Redirect}
 use Rattle.word.specs.Words.{bit}
+use Rattle.accuracy.specs.Names.{Redirect}
 
 -- the prediction at an instruction
 unfoldable pub predictAt : Program → Arch → Redirect

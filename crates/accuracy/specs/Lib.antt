@@ -1,6 +1,6 @@
 pub mod Names
 pub mod Count
 pub mod Accuracy
-pub mod Premise
-pub mod Table
+pub mod Asking
+pub mod Example
 pub mod Claims

@@ -9,9 +9,12 @@ use crate::read_latch::id_ex;
 use crate::read_latch::if_id;
 use crate::read_latch::mem_wb;
 use pipeline::Answer;
+use pipeline::Counters;
 use pipeline::Given;
 use pipeline::Offer;
 use pipeline::PipelineCpu;
+use pipeline::Place;
+use pipeline::Stages;
 
 // The registers, which stand first.
 fn registers(n: &[u32; 192]) -> [u32; 32] {
@@ -24,13 +27,16 @@ fn registers(n: &[u32; 192]) -> [u32; 32] {
     reg
 }
 
-pub fn state(n: &[u32; 192]) -> PipelineCpu {
-    PipelineCpu {
-        reg: registers(n),
-        fetch_pc: n[33],
-        fetch_mode: to_mode(n[34]),
-        retire_pc: n[35],
-        retire_mode: to_mode(n[36]),
+fn stages(n: &[u32; 192]) -> Stages {
+    Stages {
+        fetch_at: Place {
+            pc: n[33],
+            mode: to_mode(n[34]),
+        },
+        retire_at: Place {
+            pc: n[35],
+            mode: to_mode(n[36]),
+        },
         running: flag(n, 37, 0),
         user: flag(n, 38, 0),
         features: n[39],
@@ -40,11 +46,24 @@ pub fn state(n: &[u32; 192]) -> PipelineCpu {
         mem_wb: mem_wb(n, 93),
         ex_cycles_left: n[109],
         ex_armed: flag(n, 110, 0),
+    }
+}
+
+fn counts(n: &[u32; 192]) -> Counters {
+    Counters {
         cycles: counter(n, 111, 0),
         running_cycles: counter(n, 113, 0),
         instructions_executed: counter(n, 115, 0),
         stall_cycles: counter(n, 117, 0),
         flush_events: counter(n, 119, 0),
+    }
+}
+
+pub fn state(n: &[u32; 192]) -> PipelineCpu {
+    PipelineCpu {
+        reg: registers(n),
+        stages: stages(n),
+        counts: counts(n),
     }
 }
 

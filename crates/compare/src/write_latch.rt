@@ -10,18 +10,24 @@ use crate::place::set_flag;
 use crate::place::set_three;
 use crate::write_instruction::set_decoded;
 use crate::write_instruction::set_raw;
+use isa::Mode;
 use isa::Mtsr;
 use latch::ExMem;
 use latch::IdEx;
 use latch::IfId;
 use latch::MemWb;
 
+// What each latch begins with: whether it is valid, its address and mode.
+fn set_place(n: &mut [u32; 192], at: usize, valid: bool, pc: u32, mode: Mode) {
+    set_flag(n, at, 0, valid);
+    set(n, at, 1, pc);
+    set(n, at, 2, of_mode(mode));
+}
+
 pub fn set_if_id(n: &mut [u32; 192], at: usize, l: IfId) {
     let mode = l.mode;
     let raw = l.raw;
-    set_flag(n, at, 0, l.valid);
-    set(n, at, 1, l.pc);
-    set(n, at, 2, of_mode(mode));
+    set_place(n, at, l.valid, l.pc, mode);
     set_raw(n, at, 3, raw);
 }
 
@@ -30,9 +36,7 @@ pub fn set_id_ex(n: &mut [u32; 192], at: usize, l: IdEx) {
     let decoded = l.decoded;
     let dest = l.dest;
     let exception = l.exception;
-    set_flag(n, at, 0, l.valid);
-    set(n, at, 1, l.pc);
-    set(n, at, 2, of_mode(mode));
+    set_place(n, at, l.valid, l.pc, mode);
     set_decoded(n, at, 3, decoded);
     set_flag(n, at, 8, l.predicted_taken);
     set(n, at, 9, of_byte(l.src_a));
@@ -61,9 +65,7 @@ pub fn set_ex_mem(n: &mut [u32; 192], at: usize, l: ExMem) {
     let new_mode = l.branch_new_mode;
     let exception = l.exception;
     let mtsr = l.mtsr;
-    set_flag(n, at, 0, l.valid);
-    set(n, at, 1, l.pc);
-    set(n, at, 2, of_mode(mode));
+    set_place(n, at, l.valid, l.pc, mode);
     set_decoded(n, at, 3, decoded);
     set(n, at, 8, of_dest(dest));
     set_flag(n, at, 9, l.writeback);
@@ -90,9 +92,7 @@ pub fn set_mem_wb(n: &mut [u32; 192], at: usize, l: MemWb) {
     let new_mode = l.branch_new_mode;
     let exception = l.exception;
     let mtsr = l.mtsr;
-    set_flag(n, at, 0, l.valid);
-    set(n, at, 1, l.pc);
-    set(n, at, 2, of_mode(mode));
+    set_place(n, at, l.valid, l.pc, mode);
     set(n, at, 3, of_dest(dest));
     set_flag(n, at, 4, l.writeback);
     set(n, at, 5, l.value);

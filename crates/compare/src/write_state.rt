@@ -12,8 +12,11 @@ use crate::write_latch::set_mem_wb;
 use isa::Redirect;
 use isa::Request;
 use pipeline::Asked;
+use pipeline::Counters;
 use pipeline::Fetch;
 use pipeline::PipelineCpu;
+use pipeline::Place;
+use pipeline::Stages;
 
 fn set_registers(n: &mut [u32; 192], reg: [u32; 32]) {
     let mut i: usize = 0;
@@ -23,7 +26,7 @@ fn set_registers(n: &mut [u32; 192], reg: [u32; 32]) {
     }
 }
 
-fn set_latches(n: &mut [u32; 192], s: PipelineCpu) {
+fn set_latches(n: &mut [u32; 192], s: Stages) {
     let if_id = s.if_id;
     let id_ex = s.id_ex;
     let ex_mem = s.ex_mem;
@@ -34,26 +37,40 @@ fn set_latches(n: &mut [u32; 192], s: PipelineCpu) {
     set_mem_wb(n, 93, mem_wb);
 }
 
-pub fn set_state(n: &mut [u32; 192], s: PipelineCpu) {
-    let reg = s.reg;
-    let fetch_mode = s.fetch_mode;
-    let retire_mode = s.retire_mode;
-    set_registers(n, reg);
-    n[33] = s.fetch_pc;
-    n[34] = of_mode(fetch_mode);
-    n[35] = s.retire_pc;
-    n[36] = of_mode(retire_mode);
+fn set_place(n: &mut [u32; 192], at: usize, p: Place) {
+    let mode = p.mode;
+    set(n, at, 0, p.pc);
+    set(n, at, 1, of_mode(mode));
+}
+
+fn set_stages(n: &mut [u32; 192], s: Stages) {
+    let fetch_at = s.fetch_at;
+    let retire_at = s.retire_at;
+    set_place(n, 33, fetch_at);
+    set_place(n, 35, retire_at);
     set_flag(n, 37, 0, s.running);
     set_flag(n, 38, 0, s.user);
     n[39] = s.features;
     set_latches(n, s);
     n[109] = s.ex_cycles_left;
     set_flag(n, 110, 0, s.ex_armed);
+}
+
+fn set_counts(n: &mut [u32; 192], s: Counters) {
     set_counter(n, 111, 0, s.cycles);
     set_counter(n, 113, 0, s.running_cycles);
     set_counter(n, 115, 0, s.instructions_executed);
     set_counter(n, 117, 0, s.stall_cycles);
     set_counter(n, 119, 0, s.flush_events);
+}
+
+pub fn set_state(n: &mut [u32; 192], s: PipelineCpu) {
+    let reg = s.reg;
+    let stages = s.stages;
+    let counts = s.counts;
+    set_registers(n, reg);
+    set_stages(n, stages);
+    set_counts(n, counts);
 }
 
 fn set_fetch(n: &mut [u32; 192], f: Fetch) {

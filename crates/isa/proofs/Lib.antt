@@ -1,4 +1,6 @@
 pub mod Bools
+pub mod IsReg
 pub mod LowBits
 pub mod Machine
+pub mod NoCode
 pub mod Widen

@@ -7,8 +7,12 @@ use mathlib.Core.Bool.{cond, false, not, true}
 use mathlib.Core.Path.{_∙_, _≡_, ap, refl, subst}
 use native.Mathlib.Omega.{arith}
 use Rattle.isa.proofs.Bools.{split}
-use Rattle.isa.specs.Machine.{Arch, Machine, Program, effectAt, instructionAt, machine, machineBy}
-use Rattle.isa.specs.Machine.{machineStep, step, stepBy, stopsAt}
+use Rattle.isa.specs.Machine.{Arch, Machine, Program, effectAt, instructionAt, machine, machineBy, machineStep}
+use Rattle.isa.specs.Machine.{stepBy, stopsAt}
+
+-- the instruction at the machine's address and mode done
+unfoldable pub step : Program → Arch → Arch
+step g w = stepBy g (instructionAt g w) w
 
 -- every instruction done in turn, with no stopping: the path that the pipeline speculates along
 unfoldable pub walk : Program → Arch → ℕ → Arch
@@ -21,7 +25,7 @@ pub record Does (g : Program) (m m′ : Machine) (n : ℕ) : Type 0 where
   pub did : m .done ≡ n
   pub fine : stopsAt g (instructionAt g (m .arch)) (m .arch) ≡ false
   pub to : m′ .arch ≡ step g (m .arch)
-  pub on : m′ .runs ≡ not ((effectAt g (instructionAt g (m .arch)) (m .arch)) .halt)
+  pub on : m′ .runs ≡ not ((effectAt g (instructionAt g (m .arch)) (m .arch)) .marks .halt)
 
 does-step : (g : Program) (m : Machine) (n : ℕ) → m .done ≤ n → (machineStep g m) .done ≡ suc n → Does g m
     (machineStep g m) n
@@ -81,7 +85,7 @@ pub isa-goes : (g : Program) (m : Machine) → m .runs ≡ true → stopsAt g (i
     false
     → machineStep g m ≡ record {
       arch = step g (m .arch);
-      runs = not ((effectAt g (instructionAt g (m .arch)) (m .arch)) .halt);
+      runs = not ((effectAt g (instructionAt g (m .arch)) (m .arch)) .marks .halt);
       done = suc
           (m .done);
     }
@@ -90,6 +94,6 @@ isa-goes g m a b = λ j. cond (a j) (cond (b j) (record { arch = m .arch; runs =
     (record {
       arch = stepBy g (instructionAt g (m .arch)) (m .arch);
       runs = not
-          ((effectAt g (instructionAt g (m .arch)) (m .arch)) .halt);
+          ((effectAt g (instructionAt g (m .arch)) (m .arch)) .marks .halt);
       done = suc (m .done);
     })) m

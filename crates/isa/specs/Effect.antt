@@ -1,16 +1,16 @@
--- What an instruction at address p does with operand values x and y: document 01's Execute, said once.
+-- What an instruction at address p does with operand values x and y: RULES 4, said once.
 use Prim.Native.Nat.{ℕ}
 use lib.Dec.{eqb}
 use mathlib.Core.Bool.{Bool, cond, false, not, true}
-use Rattle.isa.specs.Names.{Add, Addi, And, Beq, Bne, Cpuid, DecNormal, DecShort, Decoded, Div, Divu, Effect}
-use Rattle.isa.specs.Names.{Exception, Halt, IllegalInstruction, Instruction, Iret, Jal, Jalr, Jalrs, Jals}
-use Rattle.isa.specs.Names.{Jmp, Jmps, Jr, Jrs, Keep, Ld, Ldb, Ldh, Ldih, Ldil, Mfsr, Mod, Mode, Mtsr, Mul}
-use Rattle.isa.specs.Names.{Mulh, NewMode, Next, NoException, NoMtsr, Nop, Normal, Or, PrivilegedInstruction}
-use Rattle.isa.specs.Names.{Redirect, Short, ShortInstruction, Sla, Sll, Slt, Sltu, Sra, Srl, St, Stb, Sth}
-use Rattle.isa.specs.Names.{Sub, Syscall, SyscallException, To, ToMode, Unknown, Write, Xor, sAdd, sAddi}
-use Rattle.isa.specs.Names.{sBnz, sBz, sJal, sJr, sLd, sLdi, sMov, sRet, sSt, sUnknown}
-use Rattle.word.specs.Words.{add32, and32, div32, divu32, ldih32, ldil32, mod32, mul32, mulh32, offset32, or32}
-use Rattle.word.specs.Words.{sll32, slt32, sltu32, sra32, srl32, sub32, xor32}
+use Rattle.word.specs.Words.{add32, and32, div32, divu32, ldih32, ldil32, mod32, mul32, mulh32, offset32, or32, sll32}
+use Rattle.word.specs.Words.{slt32, sltu32, sra32, srl32, sub32, xor32}
+use Rattle.isa.specs.Names.{Access, Add, Addi, AluResult, And, Beq, Bne, Cpuid, DecNormal, DecShort, Decoded, Div}
+use Rattle.isa.specs.Names.{Divu, Effect, Exception, Halt, IllegalInstruction, Instruction, Iret, Jal, Jalr}
+use Rattle.isa.specs.Names.{Jalrs, Jals, Jmp, Jmps, Jr, Jrs, Keep, Ld, Ldb, Ldh, Ldih, Ldil, Marks, Mfsr, Mod}
+use Rattle.isa.specs.Names.{Mode, Mtsr, Mul, Mulh, NewMode, Next, NoException, NoMtsr, Nop, Normal, Or}
+use Rattle.isa.specs.Names.{PrivilegedInstruction, Redirect, Short, ShortInstruction, Sla, Sll, Slt, Sltu, Sra}
+use Rattle.isa.specs.Names.{Srl, St, Stb, Sth, Sub, Syscall, SyscallException, To, ToMode, Unknown, Write, Xor}
+use Rattle.isa.specs.Names.{sAdd, sAddi, sBnz, sBz, sJal, sJr, sLd, sLdi, sMov, sRet, sSt, sUnknown}
 
 -- the size of an instruction in bytes, by its mode
 unfoldable pub size : Mode → ℕ
@@ -21,101 +21,79 @@ size Short = 2
 unfoldable pub fall : ℕ → Mode → ℕ
 fall p m = add32 p (size m)
 
--- an effect by its parts, none of which raises an exception or writes a special register
-unfoldable pub calm : ℕ → Bool → Bool → Redirect → NewMode → Bool → Bool → Bool → Effect
-calm v w a g n h i c = record {
-  «alu_result» = v;
-  «mem_addr» = 0;
-  «store_value» = 0;
-  «mem_size» = 0;
-  «is_mem_read» = false;
-  writes = w;
-  «always_writes» = a;
-  redirect = g;
-  «branch_new_mode» = n;
-  halt = h;
-  iret = i;
-  cpuid = c;
-  exception = NoException;
-  mtsr = NoMtsr;
-}
+-- the word v for the destination; a: the write is asked for even where no destination is named
+unfoldable pub written : ℕ → Bool → AluResult
+written v a = record { value = v; writes = true; «always_writes» = a }
+
+-- no word for a destination
+unfoldable pub noResult : AluResult
+noResult = record { value = 0; writes = false; «always_writes» = false }
+
+-- nothing asked of the memory
+unfoldable pub noAccess : Access
+noAccess = record { «mem_addr» = 0; «store_value» = 0; «mem_size» = 0; «is_mem_read» = false }
+
+-- nothing left to the retirement
+unfoldable pub noMarks : Marks
+noMarks = record { halt = false; iret = false; cpuid = false; exception = NoException; mtsr = NoMtsr }
+
+-- result r and access a, and on to the next address
+unfoldable pub goesOn : AluResult → Access → Effect
+goesOn r a = record { alu = r; access = a; redirect = Next; «branch_new_mode» = Keep; marks = noMarks }
+
+-- result r, and the way g; n: the mode that it changes to
+unfoldable pub goesBy : AluResult → Redirect → NewMode → Effect
+goesBy r g n = record { alu = r; access = noAccess; redirect = g; «branch_new_mode» = n; marks = noMarks }
+
+-- nothing but marks k
+unfoldable pub marked : Marks → Effect
+marked k = record { alu = noResult; access = noAccess; redirect = Next; «branch_new_mode» = Keep; marks = k }
 
 -- nothing
 unfoldable pub nothing : Effect
-nothing = calm 0 false false Next Keep false false false
+nothing = marked noMarks
 
 -- the destination gets v
 unfoldable pub gives : ℕ → Effect
-gives v = calm v true false Next Keep false false false
+gives v = goesOn (written v false) noAccess
 
 -- a load (l) of width w at address a, or a store of v there
 unfoldable pub reaches : Bool → ℕ → ℕ → ℕ → Effect
-reaches l w a v = record {
-  «alu_result» = 0;
-  «mem_addr» = a;
-  «store_value» = v;
-  «mem_size» = w;
-  «is_mem_read» = l;
-  writes = l;
-  «always_writes» = l;
-  redirect = Next;
-  «branch_new_mode» = Keep;
-  halt = false;
-  iret = false;
-  cpuid = false;
-  exception = NoException;
-  mtsr = NoMtsr;
-}
+reaches l w a v =
+    goesOn (record { value = 0; writes = l; «always_writes» = l })
+    (record { «mem_addr» = a; «store_value» = v; «mem_size» = w; «is_mem_read» = l })
 
 -- a conditional branch to q, where c holds
 unfoldable pub branches : Bool → ℕ → Mode → Effect
-branches c q m = calm 0 false false (cond c (To q m) Next) Keep false false false
+branches c q m = goesBy noResult (cond c (To q m) Next) Keep
 
 -- a jump to q in mode m; n: the mode that it changes to
 unfoldable pub jumps : ℕ → Mode → NewMode → Effect
-jumps q m n = calm 0 false false (To q m) n false false false
+jumps q m n = goesBy noResult (To q m) n
 
 -- a jump that leaves the address v of the next instruction
 unfoldable pub links : ℕ → ℕ → Mode → NewMode → Effect
-links v q m n = calm v true true (To q m) n false false false
+links v q m n = goesBy (written v true) (To q m) n
+
+-- HALT
+unfoldable pub stops : Effect
+stops = marked (record { halt = true; iret = false; cpuid = false; exception = NoException; mtsr = NoMtsr })
+
+-- IRET
+unfoldable pub resumes : Effect
+resumes = marked (record { halt = false; iret = true; cpuid = false; exception = NoException; mtsr = NoMtsr })
+
+-- CPUID
+unfoldable pub identifies : Effect
+identifies = marked (record { halt = false; iret = false; cpuid = true; exception = NoException; mtsr = NoMtsr })
 
 -- an exception
 unfoldable pub raises : Exception → Effect
-raises e = record {
-  «alu_result» = 0;
-  «mem_addr» = 0;
-  «store_value» = 0;
-  «mem_size» = 0;
-  «is_mem_read» = false;
-  writes = false;
-  «always_writes» = false;
-  redirect = Next;
-  «branch_new_mode» = Keep;
-  halt = false;
-  iret = false;
-  cpuid = false;
-  exception = e;
-  mtsr = NoMtsr;
-}
+raises e = marked (record { halt = false; iret = false; cpuid = false; exception = e; mtsr = NoMtsr })
 
 -- MTSR: word v for special register sr
 unfoldable pub sets : ℕ → ℕ → Effect
-sets sr v = record {
-  «alu_result» = 0;
-  «mem_addr» = 0;
-  «store_value» = 0;
-  «mem_size» = 0;
-  «is_mem_read» = false;
-  writes = false;
-  «always_writes» = false;
-  redirect = Next;
-  «branch_new_mode» = Keep;
-  halt = false;
-  iret = false;
-  cpuid = false;
-  exception = NoException;
-  mtsr = Write sr v;
-}
+sets sr v = marked (record { halt = false; iret = false; cpuid = false; exception = NoException; mtsr = Write sr v })
 
 -- in user mode a privileged instruction raises an exception
 unfoldable pub privileged : Bool → Effect → Effect
@@ -140,8 +118,8 @@ effectN u (Jals offset) n x y = links n (offset32 n offset) Short (ToMode Short)
 effectN u (Jrs rd) n x y = jumps x Short (ToMode Short)
 effectN u (Jalr rd) n x y = links n x Normal Keep
 effectN u (Jalrs rd) n x y = links n x Short (ToMode Short)
-effectN u Cpuid n x y = calm 0 false false Next Keep false false true
-effectN u Halt n x y = privileged u (calm 0 false false Next Keep true false false)
+effectN u Cpuid n x y = identifies
+effectN u Halt n x y = privileged u stops
 effectN u (And rd rs1 rs2) n x y = gives (and32 x y)
 effectN u (Or rd rs1 rs2) n x y = gives (or32 x y)
 effectN u (Xor rd rs1 rs2) n x y = gives (xor32 x y)
@@ -162,7 +140,7 @@ effectN u (Sth rd base offset) n x y = reaches false 2 (offset32 x offset) y
 effectN u (Ldil rd imm) n x y = gives (ldil32 x imm)
 effectN u (Ldih rd imm) n x y = gives (ldih32 x imm)
 effectN u (Unknown high low) n x y = raises IllegalInstruction
-effectN u Iret n x y = privileged u (calm 0 false false Next Keep false true false)
+effectN u Iret n x y = privileged u resumes
 effectN u (Syscall imm) n x y = raises (SyscallException imm)
 effectN u (Mfsr rd sr) n x y = privileged u (raises IllegalInstruction)
 effectN u (Mtsr rs sr) n x y = privileged u (sets sr x)

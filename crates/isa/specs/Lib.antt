@@ -6,3 +6,4 @@ pub mod Redirects
 pub mod Registers
 pub mod Waits
 pub mod Machine
+pub mod Refusals

@@ -2,12 +2,12 @@
 use Prim.Native.Nat.{suc, zero, ℕ}
 use mathlib.Core.Bool.{Bool, _&&_, _||_, cond, false, not, true}
 use mathlib.Core.List.{List, [], _++_, _∷_}
+use Rattle.word.specs.Words.{cut32}
 use Rattle.isa.specs.Effect.{effectOf, fall}
 use Rattle.isa.specs.Names.{Decoded, Dest, Effect, Load, Mode, NoDest, Request, Store}
 use Rattle.isa.specs.Operands.{operandsOf}
 use Rattle.isa.specs.Redirects.{isException, isMtsr, modeOr, targetOr}
 use Rattle.isa.specs.Registers.{readReg, writeCpuid, writeReg}
-use Rattle.word.specs.Words.{cut32}
 
 -- the request of a load (l) or a store (s): address, width, and for a store the word cut to the width
 unfoldable pub requestOf : Bool → Bool → ℕ → ℕ → ℕ → List Request
@@ -31,14 +31,17 @@ pub record Arch : Type 0 where
   pub answers : List ℕ
   pub requests : List Request
 
+-- the next answer; 0 where none is left
 unfoldable pub first : List ℕ → ℕ
 first [] = 0
 first (x ∷ xs) = x
 
+-- the answers after the next one
 unfoldable pub rest : List ℕ → List ℕ
 rest [] = []
 rest (x ∷ xs) = xs
 
+-- no answer left
 unfoldable pub isEmpty : List ℕ → Bool
 isEmpty [] = true
 isEmpty (x ∷ xs) = false
@@ -56,38 +59,31 @@ effectAt g i w =
 -- the result: of a load, what it makes of the next answer
 unfoldable pub valueAt : Program → Decoded → Arch → ℕ
 valueAt g i w =
-    cond ((operandsOf i) .«is_load») (g .take ((effectAt g i w) .«mem_size») (first (w .answers)))
-    ((effectAt g i w) .«alu_result»)
-
--- a destination, where it is written
-unfoldable pub destWhere : Bool → Dest → Dest
-destWhere w d = cond w d NoDest
+    cond ((operandsOf i) .«is_load») (g .take ((effectAt g i w) .access .«mem_size») (first (w .answers)))
+    ((effectAt g i w) .alu .value)
 
 -- the destination, where the instruction writes one
 unfoldable pub destOf : Effect → Dest → Dest
-destOf e d = destWhere (e .writes) d
+destOf e d = cond (e .alu .writes) d NoDest
 
 -- instruction i done
 unfoldable pub stepBy : Program → Decoded → Arch → Arch
 stepBy g i w = record {
   reg =
       writeReg (destOf (effectAt g i w) ((operandsOf i) .dest)) (valueAt g i w)
-      (writeCpuid ((effectAt g i w) .cpuid) (g .features) (w .reg));
+      (writeCpuid ((effectAt g i w) .marks .cpuid) (g .features) (w .reg));
   pc = targetOr ((effectAt g i w) .redirect) (fall (w .pc) (w .mode));
   mode = modeOr ((effectAt g i w) .redirect) (w .mode);
   answers = cond ((operandsOf i) .«is_load») (rest (w .answers)) (w .answers);
   requests =
       w .requests
-      ++ requestOf ((operandsOf i) .«is_load») ((operandsOf i) .«is_store») ((effectAt g i w) .«mem_addr»)
-      ((effectAt g i w) .«mem_size») ((effectAt g i w) .«store_value»);
+      ++ requestOf ((operandsOf i) .«is_load») ((operandsOf i) .«is_store») ((effectAt g i w) .access .«mem_addr»)
+      ((effectAt g i w) .access .«mem_size») ((effectAt g i w) .access .«store_value»);
 }
-
-unfoldable pub step : Program → Arch → Arch
-step g w = stepBy g (instructionAt g w) w
 
 -- an instruction that raises an exception or is MTSR or IRET
 unfoldable pub isBarred : Effect → Bool
-isBarred e = isException (e .exception) || (isMtsr (e .mtsr) || e .iret)
+isBarred e = isException (e .marks .exception) || (isMtsr (e .marks .mtsr) || e .marks .iret)
 
 -- an instruction that stops the machine undone: a barred one, or a load with no answer left
 unfoldable pub stopsAt : Program → Decoded → Arch → Bool
@@ -104,9 +100,10 @@ unfoldable pub machineBy : Program → Decoded → Machine → Machine
 machineBy g i m =
     cond (m .runs)
     (cond (stopsAt g i (m .arch)) (record { arch = m .arch; runs = false; done = m .done })
-    (record { arch = stepBy g i (m .arch); runs = not ((effectAt g i (m .arch)) .halt); done = suc (m .done) }))
+    (record { arch = stepBy g i (m .arch); runs = not ((effectAt g i (m .arch)) .marks .halt); done = suc (m .done) }))
     m
 
+-- one step of the machine
 unfoldable pub machineStep : Program → Machine → Machine
 machineStep g m = machineBy g (instructionAt g (m .arch)) m
 

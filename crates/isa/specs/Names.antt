@@ -30,4 +30,7 @@ pub use Rattle.isa.specs.declared.Exception.the-variants.{IllegalInstruc
 pub use Rattle.isa.specs.declared.Mtsr.{Mtsr as MtsrWrite}
 pub use Rattle.isa.specs.declared.Mtsr.the-variants.{None as NoMtsr, Write}
 pub use Rattle.isa.specs.declared.Operands.{Operands}
+pub use Rattle.isa.specs.declared.AluResult.{AluResult}
+pub use Rattle.isa.specs.declared.Access.{Access}
+pub use Rattle.isa.specs.declared.Marks.{Marks}
 pub use Rattle.isa.specs.declared.Effect.{Effect}

@@ -3,13 +3,12 @@ use Prim.Native.Nat.{ℕ}
 use lib.Dec.{ltb}
 use lib.IntN.{ℤ}
 use mathlib.Core.Bool.{Bool, _&&_, cond, false, true}
-use Rattle.isa.specs.Names.{Add, Addi, And, Beq, Bne, Cpuid, DecNormal, DecShort, Decoded, Dest, Div, Divu}
-use Rattle.isa.specs.Names.{Halt, Instruction, Iret, Jal, Jalr, Jalrs, Jals, Jmp, Jmps, Jr, Jrs, Ld, Ldb, Ldh}
-use Rattle.isa.specs.Names.{Ldih, Ldil, Mfsr, Mod, Mtsr, Mul, Mulh, NoDest, Nop, Operands, Or, Reg}
-use Rattle.isa.specs.Names.{ShortInstruction, Sla, Sll, Slt, Sltu, Sra, Srl, St, Stb, Sth, Sub, Syscall}
-use Rattle.isa.specs.Names.{Unknown, Xor, sAdd, sAddi, sBnz, sBz, sJal, sJr, sLd, sLdi, sMov, sRet, sSt}
-use Rattle.isa.specs.Names.{sUnknown}
 use Rattle.word.specs.Words.{wordOf}
+use Rattle.isa.specs.Names.{Add, Addi, And, Beq, Bne, Cpuid, DecNormal, DecShort, Decoded, Dest, Div, Divu, Halt}
+use Rattle.isa.specs.Names.{Instruction, Iret, Jal, Jalr, Jalrs, Jals, Jmp, Jmps, Jr, Jrs, Ld, Ldb, Ldh, Ldih}
+use Rattle.isa.specs.Names.{Ldil, Mfsr, Mod, Mtsr, Mul, Mulh, NoDest, Nop, Operands, Or, Reg, ShortInstruction}
+use Rattle.isa.specs.Names.{Sla, Sll, Slt, Sltu, Sra, Srl, St, Stb, Sth, Sub, Syscall, Unknown, Xor, sAdd, sAddi}
+use Rattle.isa.specs.Names.{sBnz, sBz, sJal, sJr, sLd, sLdi, sMov, sRet, sSt, sUnknown}
 
 -- Register 15 of a halfword means R31, the others themselves.
 unfoldable pub gpr : ℕ → ℕ
@@ -110,6 +109,14 @@ special d = record {
   «is_mfsr» = true;
 }
 
+-- the latency of MUL and MULH
+abbrev pub mulLatency : ℕ
+mulLatency = 3
+
+-- the latency of DIV, DIVU and MOD
+abbrev pub divLatency : ℕ
+divLatency = 16
+
 -- Normal stores: base, then the value in rd. LDIL and LDIH read their own rd. Links go to R31.
 unfoldable pub operandsN : Instruction → Operands
 operandsN Nop = bare
@@ -139,11 +146,11 @@ operandsN (Srl rd rs1 rs2) = binary 0 rd rs1 rs2
 operandsN (Sla rd rs1 rs2) = binary 0 rd rs1 rs2
 operandsN (Sra rd rs1 rs2) = binary 0 rd rs1 rs2
 operandsN (Sltu rd rs1 rs2) = binary 0 rd rs1 rs2
-operandsN (Mul rd rs1 rs2) = binary 3 rd rs1 rs2
-operandsN (Div rd rs1 rs2) = binary 16 rd rs1 rs2
-operandsN (Mod rd rs1 rs2) = binary 16 rd rs1 rs2
-operandsN (Mulh rd rs1 rs2) = binary 3 rd rs1 rs2
-operandsN (Divu rd rs1 rs2) = binary 16 rd rs1 rs2
+operandsN (Mul rd rs1 rs2) = binary mulLatency rd rs1 rs2
+operandsN (Div rd rs1 rs2) = binary divLatency rd rs1 rs2
+operandsN (Mod rd rs1 rs2) = binary divLatency rd rs1 rs2
+operandsN (Mulh rd rs1 rs2) = binary mulLatency rd rs1 rs2
+operandsN (Divu rd rs1 rs2) = binary divLatency rd rs1 rs2
 operandsN (Ldb rd base offset) = loading rd base
 operandsN (Ldh rd base offset) = loading rd base
 operandsN (Stb rd base offset) = storing base rd
@@ -171,6 +178,7 @@ operandsS (sLdi rd imm) = writes (gpr rd)
 operandsS sRet = bare
 operandsS (sUnknown h) = bare
 
+-- the operands of a decoded instruction
 unfoldable pub operandsOf : Decoded → Operands
 operandsOf (DecNormal i) = operandsN i
 operandsOf (DecShort i) = operandsS i

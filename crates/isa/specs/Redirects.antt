@@ -4,6 +4,7 @@ use mathlib.Core.Bool.{Bool, false, true}
 use Rattle.isa.specs.Names.{Exception, IllegalInstruction, Keep, Mode, MtsrWrite, NewMode, Next, NoException}
 use Rattle.isa.specs.Names.{NoMtsr, PrivilegedInstruction, Redirect, SyscallException, To, ToMode, Write}
 
+-- whether there is a target
 unfoldable pub isTo : Redirect → Bool
 isTo Next = false
 isTo (To q m) = true
@@ -23,12 +24,14 @@ unfoldable pub newModeOr : NewMode → Mode → Mode
 newModeOr Keep m = m
 newModeOr (ToMode n) m = n
 
+-- whether there is an exception
 unfoldable pub isException : Exception → Bool
 isException NoException = false
 isException PrivilegedInstruction = true
 isException IllegalInstruction = true
 isException (SyscallException n) = true
 
+-- whether a special register is written
 unfoldable pub isMtsr : MtsrWrite → Bool
 isMtsr NoMtsr = false
 isMtsr (Write sr v) = true

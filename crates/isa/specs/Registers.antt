@@ -23,10 +23,14 @@ unfoldable pub writeReg : Dest → ℕ → List ℕ → List ℕ
 writeReg NoDest v rs = rs
 writeReg (Reg d) v rs = putReg d v rs
 
--- CPUID writes R1, then R2: the processor's name, 53524332, and the feature word
+-- the processor's name, which CPUID gives
+abbrev pub processorName : ℕ
+processorName = 0x53524332
+
+-- CPUID writes R1, then R2: the processor's name and the feature word
 unfoldable pub writeCpuid : Bool → ℕ → List ℕ → List ℕ
 writeCpuid false features rs = rs
-writeCpuid true features rs = set (set rs 1 0x53524332) 2 features
+writeCpuid true features rs = set (set rs 1 processorName) 2 features
 
 -- whether a destination is register r
 unfoldable pub isDest : Dest → ℕ → Bool

@@ -3,8 +3,8 @@ use Prim.Native.Nat.{_%_, _+_, _-_, _/_, _^_, ℕ}
 use lib.Dec.{eqb, ltb}
 use lib.IntN.{negsuc, pos, ℤ}
 use mathlib.Core.Bool.{cond}
-use Rattle.isa.specs.Names.{DecNormal, DecShort, Decoded, RawInstr, RawNormal, RawShort, ShortInstruction}
-use Rattle.isa.specs.Names.{sAdd, sAddi, sBnz, sBz, sJal, sJr, sLd, sLdi, sMov, sRet, sSt, sUnknown}
+use Rattle.isa.specs.Names.{DecNormal, DecShort, Decoded, RawInstr, RawNormal, RawShort, ShortInstruction, sAdd}
+use Rattle.isa.specs.Names.{sAddi, sBnz, sBz, sJal, sJr, sLd, sLdi, sMov, sRet, sSt, sUnknown}
 
 -- nibble k of a halfword, counted from the low end
 unfoldable pub nibble : ℕ → ℕ → ℕ
@@ -30,6 +30,7 @@ shortBy op h =
     (cond (eqb op 9) (sLdi (nibble h 2) (h % 256))
     (cond (ltb op 15) (sUnknown h) sRet))))))))))
 
+-- a halfword decoded
 unfoldable pub decodeShort : ℕ → ShortInstruction
 decodeShort h = shortBy (h / 16 ^ 3) h
 

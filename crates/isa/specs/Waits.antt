@@ -2,25 +2,22 @@
 use Prim.Native.Nat.{_-_, _^_, ℕ}
 use lib.Dec.{eqb, ltb}
 use mathlib.Core.Bool.{Bool, _&&_, _||_, cond, false, not}
+use Rattle.word.specs.Words.{add32}
 use Rattle.isa.specs.Effect.{fall}
 use Rattle.isa.specs.Names.{Decoded, Dest, Mode, Next, NoDest, Operands, Redirect, Reg, To}
-use Rattle.isa.specs.Operands.{operandsOf}
-use Rattle.word.specs.Words.{add32}
+use Rattle.isa.specs.Operands.{divLatency, mulLatency, operandsOf}
 
 -- multiplies: MUL and MULH
 unfoldable pub isMul : Decoded → Bool
-isMul i = eqb ((operandsOf i) .latency) 3
+isMul i = eqb ((operandsOf i) .latency) mulLatency
 
 -- divides: DIV, DIVU and MOD
 unfoldable pub isDiv : Decoded → Bool
-isDiv i = eqb ((operandsOf i) .latency) 16
+isDiv i = eqb ((operandsOf i) .latency) divLatency
 
 -- the ticks that an instruction waits in EX: one less than its latency
-unfoldable pub waitsBy : Operands → ℕ
-waitsBy o = o .latency - 1
-
 unfoldable pub waits : Decoded → ℕ
-waits i = waitsBy (operandsOf i)
+waits i = (operandsOf i) .latency - 1
 
 -- a destination other than R0 that is one of two sources
 unfoldable pub isUsed : Dest → ℕ → ℕ → Bool
@@ -40,5 +37,6 @@ isNegative w = not (ltb w (2 ^ 31))
 unfoldable pub predictBy : Operands → ℕ → Mode → Redirect
 predictBy o p m = cond (o .«is_branch» && isNegative (o .offset)) (To (add32 (fall p m) (o .offset)) m) Next
 
+-- the same of a decoded instruction
 unfoldable pub predict : Decoded → ℕ → Mode → Redirect
 predict i p m = predictBy (operandsOf i) p m

@@ -20,15 +20,26 @@
 // - Decoded::operands: LDIL with no source (ldil_source_forgotten); a latency of 4 for MUL (mul_latency_4).
 // - Dest::in_bounds: 32 in bounds; out of bounds where no destination is named.
 // - Operands::in_bounds: the destination not tested; a source tested only where `n_srcs` counts it.
+// - Instruction::code: 2 for MFSR with a register above 31; 0 for MFSR.
+// - RawInstr::code: 1 for an unknown halfword; 0 for a Normal instruction with register 32.
+// - RawInstr::is_of: a halfword of either mode; the two modes exchanged.
+// - Decoded::code: 1 for register 16 of a Short instruction; 0 for MFSR.
 // - Decoded::effect: RET to the address in R31 (ret_to_r31); HALT that halts in user mode.
+// - raises: an exception that leaves `writes` set; no exception for SYSCALL 0.
 // - Mode::size: 4 for Short; 2 for Normal.
 // - Mode::fall: 4 added in Short mode; a sum that stops at FFFFFFFF.
-mod choices;
-mod doing;
+mod destinations;
+pub mod effect_table;
 mod encoding;
-mod naming;
+mod exceptions;
+mod modes;
+mod operand_table;
+mod prediction;
+mod redirects;
+mod refusals;
 pub mod registers;
 mod short;
+mod waits;
 
 // The mode of an instruction: 4 bytes long, or 2.
 pub enum Mode {
@@ -84,10 +95,13 @@ pub enum Instruction {
 }
 
 impl Instruction {
+    // Its length in bytes.
     pub const SIZE: u32 = 4;
 
+    // The latency of MUL and MULH in ticks.
     pub const MUL_LATENCY: u8 = 3;
 
+    // The latency of DIV, DIVU and MOD in ticks.
     pub const DIV_LATENCY: u8 = 16;
 }
 
@@ -108,6 +122,7 @@ pub enum ShortInstruction {
 }
 
 impl ShortInstruction {
+    // Its length in bytes.
     pub const SIZE: u32 = 2;
 }
 
@@ -178,21 +193,36 @@ pub struct Operands {
     pub is_mfsr: bool,
 }
 
-// What an instruction does with two operand values. `writes`: its destination gets the result;
+// The word that an instruction computes. `writes`: its destination gets a word;
 // `always_writes`: it asks for the write even where no destination is named.
-pub struct Effect {
-    pub alu_result: u32,
+pub struct AluResult {
+    pub value: u32,
+    pub writes: bool,
+    pub always_writes: bool,
+}
+
+// What an instruction asks of the memory: address, a store's word, width in bytes (0: no access), and whether it reads.
+pub struct Access {
     pub mem_addr: u32,
     pub store_value: u32,
     pub mem_size: u8,
     pub is_mem_read: bool,
-    pub writes: bool,
-    pub always_writes: bool,
-    pub redirect: Redirect,
-    pub branch_new_mode: NewMode,
+}
+
+// What is left to the retirement: HALT, IRET, CPUID, an exception, MTSR's word.
+pub struct Marks {
     pub halt: bool,
     pub iret: bool,
     pub cpuid: bool,
     pub exception: Exception,
     pub mtsr: Mtsr,
+}
+
+// What an instruction does with two operand values.
+pub struct Effect {
+    pub access: Access,
+    pub alu: AluResult,
+    pub redirect: Redirect,
+    pub branch_new_mode: NewMode,
+    pub marks: Marks,
 }

@@ -1,11 +1,12 @@
 // Short decode.
 ghost use mathlib.Core.Path.{_≡_};
 ghost use Prim.Native.Nat.{_%_};
-ghost use Rattle.isa.specs.Short.{nibble, lowBits, decodeShort, decodedOf};
+ghost use Rattle.isa.specs.Short.{decodeShort, decodedOf, lowBits, nibble};
 use crate::Decoded;
 use crate::RawInstr;
 use crate::ShortInstruction;
 
+// The register numbers of a halfword, each in its nibble.
 fn rd_of(raw: u16) -> u8
     ensures { λ r. ⌜ r ≡ nibble raw 2 ⌝ }
 {
@@ -24,6 +25,7 @@ fn rs2_of(raw: u16) -> u8
     (raw % 16) as u8
 }
 
+// The low 8 bits.
 fn imm8_of(raw: u16) -> u8
     ensures { λ r. ⌜ r ≡ raw % 256 ⌝ }
 {

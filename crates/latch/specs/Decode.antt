@@ -29,10 +29,11 @@ idExBy g i o p m rs = record {
   exception = NoException;
 }
 
+-- the same with the operands that instruction i names
 unfoldable pub idExOf : Bool → Decoded → ℕ → Mode → List ℕ → IdEx
 idExOf g i p m rs = idExBy g i (operandsOf i) p m rs
 
--- decode_id: what IF/ID holds, decoded; it predicts nothing
+-- what IF/ID holds, decoded; it predicts nothing
 unfoldable pub decodeId : IfId → List ℕ → IdEx
 decodeId l rs = idExOf false (decodedOf (l .raw)) (l .pc) (l .mode) rs
 
@@ -41,6 +42,6 @@ unfoldable pub decodePredicted : IfId → List ℕ → IdEx
 decodePredicted l rs =
     idExOf (isTo (predict (decodedOf (l .raw)) (l .pc) (l .mode))) (decodedOf (l .raw)) (l .pc) (l .mode) rs
 
--- load_use_hazard: a valid load in ID/EX whose destination, other than R0, is one of the two sources
+-- a valid load in ID/EX whose destination, other than R0, is one of the two sources
 unfoldable pub loadUse : IdEx → ℕ → ℕ → Bool
 loadUse l a b = l .valid && (l .«is_load» && isUsed (l .dest) a b)

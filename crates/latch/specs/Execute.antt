@@ -22,22 +22,22 @@ exMemOf l e = record {
   mode = l .mode;
   decoded = l .decoded;
   dest = destOf e (l .dest);
-  writeback = e .«always_writes» || (e .writes && isNamed (l .dest));
-  «is_load» = cond (isException (e .exception)) false (l .«is_load»);
-  «is_store» = cond (isException (e .exception)) false (l .«is_store»);
-  «alu_result» = e .«alu_result»;
-  «store_value» = e .«store_value»;
-  «mem_addr» = e .«mem_addr»;
-  «mem_size» = e .«mem_size»;
-  «is_mem_read» = e .«is_mem_read»;
+  writeback = e .alu .«always_writes» || (e .alu .writes && isNamed (l .dest));
+  «is_load» = cond (isException (e .marks .exception)) false (l .«is_load»);
+  «is_store» = cond (isException (e .marks .exception)) false (l .«is_store»);
+  «alu_result» = e .alu .value;
+  «store_value» = e .access .«store_value»;
+  «mem_addr» = e .access .«mem_addr»;
+  «mem_size» = e .access .«mem_size»;
+  «is_mem_read» = e .access .«is_mem_read»;
   «branch_taken» = isTo (e .redirect);
   «branch_target» = targetOr (e .redirect) 0;
   «branch_new_mode» = e .«branch_new_mode»;
-  halt = e .halt;
-  iret = e .iret;
-  cpuid = e .cpuid;
-  exception = e .exception;
-  mtsr = e .mtsr;
+  halt = e .marks .halt;
+  iret = e .marks .iret;
+  cpuid = e .marks .cpuid;
+  exception = e .marks .exception;
+  mtsr = e .marks .mtsr;
 }
 
 -- the redirect of a way h that was predicted taken or not: none where the guess was right, and the fall-through
@@ -47,8 +47,12 @@ mispredict false h p m = h
 mispredict true Next p m = To p m
 mispredict true (To q n) p m = Next
 
--- the effect of ID/EX with its operands forwarded out of the latches; operand B only where two sources are named
+-- operand B is forwarded where the latch names two sources, and is the latch's own otherwise
+unfoldable pub operandB : ExMem → MemWb → ℕ → List ℕ → IdEx → ℕ
+operandB x w features rs l = cond (ltb 1 (l .«n_srcs»)) (forwardFrom x w features rs (l .«src_b»)) (l .«op_b»)
+
+-- the effect of ID/EX with its operands forwarded out of the latches
 unfoldable pub effectFrom : Bool → ExMem → MemWb → ℕ → List ℕ → IdEx → Effect
 effectFrom u x w features rs l =
     effectIn u l (forwardFrom x w features rs (l .«src_a»))
-    (cond (ltb 1 (l .«n_srcs»)) (forwardFrom x w features rs (l .«src_b»)) (l .«op_b»))
+    (operandB x w features rs l)

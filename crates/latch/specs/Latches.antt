@@ -1,12 +1,13 @@
 -- The empty latches.
 use mathlib.Core.Bool.{false}
-use Rattle.latch.specs.Names.{DecNormal, ExMem, IdEx, IfId, Keep, MemWb, NoDest, NoException, NoMtsr, Nop}
-use Rattle.latch.specs.Names.{Normal, RawNormal}
+use Rattle.latch.specs.Names.{DecNormal, ExMem, IdEx, IfId, Keep, MemWb, NoDest, NoException, NoMtsr, Nop, Normal}
+use Rattle.latch.specs.Names.{RawNormal}
 
 -- IF/ID at a start: invalid, with NOP at address 0 in Normal mode
 unfoldable pub emptyIfId : IfId
 emptyIfId = record { valid = false; pc = 0; mode = Normal; raw = RawNormal Nop }
 
+-- ID/EX with no instruction
 unfoldable pub emptyIdEx : IdEx
 emptyIdEx = record {
   valid = false;
@@ -25,6 +26,7 @@ emptyIdEx = record {
   exception = NoException;
 }
 
+-- EX/MEM with no instruction
 unfoldable pub emptyExMem : ExMem
 emptyExMem = record {
   valid = false;
@@ -50,6 +52,7 @@ emptyExMem = record {
   mtsr = NoMtsr;
 }
 
+-- MEM/WB with no instruction
 unfoldable pub emptyMemWb : MemWb
 emptyMemWb = record {
   valid = false;

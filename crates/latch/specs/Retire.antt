@@ -5,9 +5,10 @@ use mathlib.Core.Bool.{Bool, _&&_, _||_, cond, false, true}
 use mathlib.Core.List.{List}
 use Rattle.isa.specs.Effect.{fall}
 use Rattle.isa.specs.Redirects.{isException, isMtsr, newModeOr}
-use Rattle.isa.specs.Registers.{putReg}
+use Rattle.isa.specs.Registers.{processorName, putReg}
 use Rattle.latch.specs.Names.{Dest, MemWb, Mode, NoDest, Reg}
 
+-- a valid HALT
 unfoldable pub halts : MemWb → Bool
 halts l = l .valid && l .halt
 
@@ -16,9 +17,10 @@ unfoldable pub retireReg : Dest → ℕ → List ℕ → List ℕ
 retireReg NoDest v rs = rs
 retireReg (Reg d) v rs = set (putReg d v rs) 0 0
 
+-- CPUID's words, and R0 back to 0
 unfoldable pub retireCpuid : Bool → ℕ → List ℕ → List ℕ
 retireCpuid false features rs = rs
-retireCpuid true features rs = set (set (set rs 1 0x53524332) 2 features) 0 0
+retireCpuid true features rs = set (set (set rs 1 processorName) 2 features) 0 0
 
 -- the registers after it
 unfoldable pub retiredRegs : MemWb → ℕ → List ℕ → List ℕ

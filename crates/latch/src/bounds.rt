@@ -1,42 +1,10 @@
 // Refusal 11: the bounds of each latch, valid or not.
 ghost use mathlib.Core.Path.{_≡_};
-ghost use Rattle.latch.specs.Bounds.{badInstruction, badRaw, badDecoded, badWidth, badIfId, badIdEx};
-ghost use Rattle.latch.specs.Bounds.{badExMem, badMemWb};
+ghost use Rattle.latch.specs.Bounds.{badExMem, badIdEx, badIfId, badMemWb, badWidth};
 use crate::ExMem;
 use crate::IdEx;
 use crate::IfId;
 use crate::MemWb;
-use isa::Decoded;
-use isa::Instruction;
-use isa::RawInstr;
-
-// A Normal instruction with a register above 31, or MFSR.
-pub fn bad_instruction(i: Instruction) -> bool
-    ensures { λ r. ⌜ r ≡ badInstruction i ⌝ }
-{
-    let d = Decoded::Normal(i);
-    let o = d.operands();
-    !o.in_bounds() | o.is_mfsr
-}
-
-pub fn bad_raw(raw: RawInstr) -> bool
-    ensures { λ r. ⌜ r ≡ badRaw raw ⌝ }
-{
-    match raw {
-        RawInstr::Normal(i) => bad_instruction(i),
-        RawInstr::Short(_) => false,
-    }
-}
-
-// The register numbers inside a decoded short instruction are not tested.
-pub fn bad_decoded(d: Decoded) -> bool
-    ensures { λ r. ⌜ r ≡ badDecoded d ⌝ }
-{
-    match d {
-        Decoded::Normal(i) => bad_instruction(i),
-        Decoded::Short(_) => false,
-    }
-}
 
 // A width other than 0, 1, 2, 4.
 fn bad_width(w: u8) -> bool
@@ -46,36 +14,40 @@ fn bad_width(w: u8) -> bool
 }
 
 impl IfId {
+    // An instruction that is refused.
     pub fn out_of_bounds(self) -> bool
         ensures { λ r. ⌜ r ≡ badIfId self ⌝ }
     {
         let raw = self.raw;
-        bad_raw(raw)
+        0 < raw.code()
     }
 }
 
 impl IdEx {
+    // An instruction that is refused, a register above 31, or more than two sources.
     pub fn out_of_bounds(self) -> bool
         ensures { λ r. ⌜ r ≡ badIdEx self ⌝ }
     {
         let decoded = self.decoded;
         let dest = self.dest;
         let sources = (31 < self.src_a) | ((31 < self.src_b) | (2 < self.n_srcs));
-        bad_decoded(decoded) | (!dest.in_bounds() | sources)
+        (0 < decoded.code()) | (!dest.in_bounds() | sources)
     }
 }
 
 impl ExMem {
+    // An instruction that is refused, a destination above 31, or no such width.
     pub fn out_of_bounds(self) -> bool
         ensures { λ r. ⌜ r ≡ badExMem self ⌝ }
     {
         let decoded = self.decoded;
         let dest = self.dest;
-        bad_decoded(decoded) | (!dest.in_bounds() | bad_width(self.mem_size))
+        (0 < decoded.code()) | (!dest.in_bounds() | bad_width(self.mem_size))
     }
 }
 
 impl MemWb {
+    // A destination above 31.
     pub fn out_of_bounds(self) -> bool
         ensures { λ r. ⌜ r ≡ badMemWb self ⌝ }
     {

@@ -1,8 +1,8 @@
 // Decode, and the hazard behind a load.
 ghost use mathlib.Core.Path.{_≡_};
 ghost use Rattle.isa.specs.Waits.{isUsed};
+ghost use Rattle.latch.specs.Decode.{decodeId, idExBy, loadUse};
 ghost use Rattle.latch.specs.Latches.{cleared};
-ghost use Rattle.latch.specs.Decode.{idExBy, decodeId, loadUse};
 use crate::IdEx;
 use crate::IfId;
 use isa::Decoded;
@@ -38,7 +38,7 @@ impl IfId {
     }
 
     // What IF/ID holds, decoded; it predicts nothing.
-    pub fn decode_id(self, reg: &[u32; 32]) -> IdEx
+    pub fn decode(self, reg: &[u32; 32]) -> IdEx
         ensures { λ r. ⌜ r ≡ decodeId self (now (reg .entry)) ⌝ }
     {
         let raw = self.raw;
@@ -82,7 +82,7 @@ impl IdEx {
     }
 
     // A valid load whose destination, other than R0, is one of the two sources.
-    pub fn load_use_hazard(self, a: u8, b: u8) -> bool
+    pub fn load_is_used(self, a: u8, b: u8) -> bool
         ensures { λ r. ⌜ r ≡ loadUse self a b ⌝ }
     {
         let dest = self.dest;

@@ -1,44 +1,19 @@
 // Execute: the effect of ID/EX, the latch that it makes, and the redirect.
-ghost use lib.Dec.{ltb};
 ghost use mathlib.Core.Bool.{cond, false};
 ghost use mathlib.Core.Path.{_≡_};
-ghost use Rattle.isa.specs.Effect.{raises};
-ghost use Rattle.isa.specs.Machine.{destWhere};
-ghost use Rattle.latch.specs.Execute.{effectIn, exMemOf, mispredict, effectFrom};
-ghost use Rattle.latch.specs.Forwarding.{forwardFrom};
+ghost use Rattle.latch.specs.Execute.{effectFrom, effectIn, exMemOf, mispredict, operandB};
+ghost use Rattle.latch.specs.Names.{NoDest};
 use crate::ExMem;
 use crate::IdEx;
 use crate::MemWb;
-use crate::forwarding::forwarded;
+use crate::forwarding::operand;
 use isa::Dest;
 use isa::Effect;
-use isa::Exception;
 use isa::Mode;
-use isa::Mtsr;
-use isa::NewMode;
 use isa::Redirect;
+use isa::effect_table::raises;
 
-fn raised(e: Exception) -> Effect
-    ensures { λ r. ⌜ r ≡ raises e ⌝ }
-{
-    Effect {
-        alu_result: 0,
-        mem_addr: 0,
-        store_value: 0,
-        mem_size: 0,
-        is_mem_read: false,
-        writes: false,
-        always_writes: false,
-        redirect: Redirect::Next,
-        branch_new_mode: NewMode::Keep,
-        halt: false,
-        iret: false,
-        cpuid: false,
-        exception: e,
-        mtsr: Mtsr::None,
-    }
-}
-
+// False where it is off, else `b`.
 fn unless(off: bool, b: bool) -> bool
     ensures { λ r. ⌜ r ≡ cond off false b ⌝ }
 {
@@ -48,8 +23,9 @@ fn unless(off: bool, b: bool) -> bool
     b
 }
 
+// A destination where it is written, else none.
 fn dest_if(on: bool, d: Dest) -> Dest
-    ensures { λ r. ⌜ r ≡ destWhere on d ⌝ }
+    ensures { λ r. ⌜ r ≡ cond on d NoDest ⌝ }
 {
     if on {
         return d;
@@ -78,7 +54,7 @@ impl IdEx {
     {
         let exception = self.exception;
         if exception.is_some() {
-            return raised(exception);
+            return raises(exception);
         }
         let d = self.decoded;
         d.effect(user, self.pc, a, b)
@@ -92,30 +68,33 @@ impl IdEx {
         let decoded = self.decoded;
         let dest = self.dest;
         let way = e.redirect;
-        let exception = e.exception;
-        let raised = exception.is_some();
         let branch_new_mode = e.branch_new_mode;
-        let mtsr = e.mtsr;
+        let alu = e.alu;
+        let access = e.access;
+        let marks = e.marks;
+        let exception = marks.exception;
+        let mtsr = marks.mtsr;
+        let raised = exception.is_some();
         ExMem {
             valid: true,
             pc: self.pc,
             mode,
             decoded,
-            dest: dest_if(e.writes, dest),
-            writeback: e.always_writes | (e.writes & dest.is_named()),
+            dest: dest_if(alu.writes, dest),
+            writeback: alu.always_writes | (alu.writes & dest.is_named()),
             is_load: unless(raised, self.is_load),
             is_store: unless(raised, self.is_store),
-            alu_result: e.alu_result,
-            store_value: e.store_value,
-            mem_addr: e.mem_addr,
-            mem_size: e.mem_size,
-            is_mem_read: e.is_mem_read,
+            alu_result: alu.value,
+            store_value: access.store_value,
+            mem_addr: access.mem_addr,
+            mem_size: access.mem_size,
+            is_mem_read: access.is_mem_read,
             branch_taken: way.is_to(),
             branch_target: way.target_or(0),
             branch_new_mode,
-            halt: e.halt,
-            iret: e.iret,
-            cpuid: e.cpuid,
+            halt: marks.halt,
+            iret: marks.iret,
+            cpuid: marks.cpuid,
             exception,
             mtsr,
         }
@@ -124,10 +103,10 @@ impl IdEx {
 
 // Operand B: forwarded where two sources are named, else as it was sampled.
 fn operand_b(x: ExMem, w: MemWb, features: u32, reg: &[u32; 32], d: IdEx) -> u32
-    ensures { λ r. ⌜ r ≡ cond (ltb 1 (d .«n_srcs»)) (forwardFrom x w features (now (reg .entry)) (d .«src_b»)) (d .«op_b») ⌝ }
+    ensures { λ r. ⌜ r ≡ operandB x w features (now (reg .entry)) d ⌝ }
 {
     if 1 < d.n_srcs {
-        return forwarded(x, w, features, reg, d.src_b);
+        return operand(x, w, features, reg, d.src_b);
     }
     d.op_b
 }
@@ -143,7 +122,7 @@ pub fn effect_from(
 ) -> Effect
     ensures { λ r. ⌜ r ≡ effectFrom user x w features (now (reg .entry)) d ⌝ }
 {
-    let a = forwarded(x, w, features, reg, d.src_a);
+    let a = operand(x, w, features, reg, d.src_a);
     let b = operand_b(x, w, features, reg, d);
     d.effect(user, a, b)
 }

@@ -1,19 +1,26 @@
 // Forwarding out of one latch, over the value of an older place.
-ghost use lib.Dec.{eqb};
-ghost use mathlib.Core.Bool.{_&&_, cond, not};
+ghost use mathlib.Core.Bool.{_&&_, not};
 ghost use mathlib.Core.Path.{_≡_};
 ghost use Rattle.isa.specs.Registers.{isDest};
-ghost use Rattle.latch.specs.Forwarding.{fromMemWb, fromExMem, forwardFrom};
+ghost use Rattle.latch.specs.Forwarding.{cpuidWord, forwardFrom, fromExMem, fromMemWb};
 use crate::ExMem;
 use crate::MemWb;
+use isa::registers::PROCESSOR_NAME;
 use isa::registers::read_reg;
-use isa::registers::sel;
 
-// CPUID's words for R1 and R2, over `v`.
-fn cpuid_word(features: u32, r: u8, v: u32) -> u32
-    ensures { λ a. ⌜ a ≡ cond (eqb 1 r) 0x53524332 (cond (eqb 2 r) features v) ⌝ }
+// CPUID's words for R1 and R2 over `v`, where it is on.
+fn cpuid_word(on: bool, features: u32, r: u8, v: u32) -> u32
+    ensures { λ a. ⌜ a ≡ cpuidWord on features r v ⌝ }
 {
-    sel(1 == r, 0x53524332, sel(2 == r, features, v))
+    if on {
+        if 1 == r {
+            return PROCESSOR_NAME;
+        }
+        if 2 == r {
+            return features;
+        }
+    }
+    v
 }
 
 impl MemWb {
@@ -32,10 +39,7 @@ impl MemWb {
         if self.writes(r) {
             return self.value;
         }
-        if self.valid & self.cpuid {
-            return cpuid_word(features, r, v);
-        }
-        v
+        cpuid_word(self.valid & self.cpuid, features, r, v)
     }
 }
 
@@ -55,15 +59,12 @@ impl ExMem {
         if self.writes(r) {
             return self.alu_result;
         }
-        if self.valid & self.cpuid {
-            return cpuid_word(features, r, v);
-        }
-        v
+        cpuid_word(self.valid & self.cpuid, features, r, v)
     }
 }
 
 // The value of a register as EX sees it. What is older is read only where EX/MEM does not write it.
-pub fn forwarded(x: ExMem, w: MemWb, features: u32, reg: &[u32; 32], r: u8) -> u32
+pub fn operand(x: ExMem, w: MemWb, features: u32, reg: &[u32; 32], r: u8) -> u32
     ensures { λ a. ⌜ a ≡ forwardFrom x w features (now (reg .entry)) r ⌝ }
 {
     if r == 0 {

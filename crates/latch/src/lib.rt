@@ -7,9 +7,9 @@
 // - ExMem::invalid: a valid NOP; a width of 4.
 // - MemWb::invalid: a valid latch; R0 for its destination.
 // - IfId::cleared: the contents reset too (cleared_if_id_reset); the latch left valid.
-// - IfId::decode_id: an invalid latch made of an invalid one; a branch with negative offset predicted taken.
+// - IfId::decode: an invalid latch made of an invalid one; a branch with negative offset predicted taken.
 // - IdEx::of: the word that stands in reg[0] sampled for R0; operand B 0 where fewer than two sources are named.
-// - IdEx::load_use_hazard: a load to R0 waited for; the second source not compared.
+// - IdEx::load_is_used: a load to R0 waited for; the second source not compared.
 // - mispredict: a redirect for a branch rightly predicted; none for a predicted branch that is not taken.
 // - IdEx::effect: the instruction done although the latch holds an exception; HALT that halts in user mode.
 // - IdEx::ex_mem: an exception that leaves `is_load` as it was; the destination kept where the effect writes nothing.
@@ -17,10 +17,7 @@
 //   operand A forwarded only where a source is named (operand_a_only_where_named).
 // - MemWb::forward: CPUID's words before the latch's own value; the value of an invalid latch.
 // - ExMem::forward: the result of a load (load_forwarded_from_ex_mem); the result of an invalid latch.
-// - forwarded: MEM/WB before EX/MEM (mem_wb_before_ex_mem); what a latch holds for R0.
-// - bad_instruction: MFSR let through; register 32 let through.
-// - bad_raw: MFSR let through; an unknown halfword stopped.
-// - bad_decoded: MFSR let through; register 16 of a short instruction stopped.
+// - operand: MEM/WB before EX/MEM (mem_wb_before_ex_mem); what a latch holds for R0.
 // - IfId::out_of_bounds: an invalid latch let through; an unknown halfword stopped.
 // - IdEx::out_of_bounds: an invalid latch let through; 3 sources let through.
 // - ExMem::out_of_bounds: an invalid latch let through; a width of 3 let through.
@@ -35,7 +32,7 @@
 // - MemWb::retired_mode: the mode of the instruction itself; the change that an invalid latch holds.
 // - MemWb::write_back: a word left in R0; CPUID's words put over the destination's.
 //   Within it put_reg writes R0 (r0_written).
-pub mod bounds;
+mod bounds;
 mod decode;
 pub mod execute;
 pub mod forwarding;
@@ -43,7 +40,7 @@ mod memory;
 mod retire;
 
 ghost use mathlib.Core.Path.{_≡_};
-ghost use Rattle.latch.specs.Latches.{emptyIfId, emptyIdEx, emptyExMem, emptyMemWb};
+ghost use Rattle.latch.specs.Latches.{emptyExMem, emptyIdEx, emptyIfId, emptyMemWb};
 use isa::Decoded;
 use isa::Dest;
 use isa::Exception;

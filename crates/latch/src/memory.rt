@@ -1,18 +1,20 @@
 // Memory: the request of EX/MEM and the latch that it makes.
 ghost use mathlib.Core.Path.{_≡_};
-ghost use Rattle.latch.specs.Memory.{loads, stores, passedOn, memWbOf, requests, requestIn};
+ghost use Rattle.latch.specs.Memory.{loads, memWbOf, passedOn, requestIn, requests, stores};
 use crate::ExMem;
 use crate::MemWb;
 use isa::Dest;
 use isa::Request;
 
 impl ExMem {
+    // A load that asks for memory; a width of 0 asks for nothing.
     pub fn loads(self) -> bool
         ensures { λ r. ⌜ r ≡ loads self ⌝ }
     {
         self.is_load & !(self.mem_size == 0)
     }
 
+    // A store that asks for memory.
     pub fn stores(self) -> bool
         ensures { λ r. ⌜ r ≡ stores self ⌝ }
     {

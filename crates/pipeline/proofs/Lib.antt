@@ -1,4 +1,3 @@
 pub mod Moves
 pub mod Refusing
 pub mod Running
-pub mod Turns

@@ -1,24 +1,24 @@
--- The numbers that the code computes decide as the definitions' tests do.
+-- The numbers that the code computes decide as the definitions' tests do. Assumes nothing.
 use Prim.Native.Nat.{ℕ}
 use lib.Dec.{ltb}
 use mathlib.Core.Bool.{Bool, _&&_, _||_, cond, false, false≢true, not, true}
-use mathlib.Core.List.{[]}
 use mathlib.Core.Path.{_∙_, _≡_, ap, refl, sym}
 use Rattle.isa.proofs.Bools.{or-l, or-r}
-use Rattle.isa.specs.Machine.{rest}
-use Rattle.latch.specs.Memory.{loads, requestIn, requests}
-use Rattle.pipeline.specs.Advance.{advance, awake, idle, next, resting}
-use Rattle.pipeline.specs.Ask.{ask, asks, brimming, broken, fetchAt, fetchOf, stuck, wantFetch, wantLoad}
-use Rattle.pipeline.specs.Codes.{Stands, Tells, TellsAll, answerCode, givenCode, isOf, isShort, offerCode}
-use Rattle.pipeline.specs.Codes.{refusedWith, standing, tickedOn, wanted}
+use Rattle.isa.specs.Refusals.{isOf}
+use Rattle.latch.specs.Memory.{requestIn}
+use Rattle.pipeline.specs.Advance.{awake, next, resting}
+use Rattle.pipeline.specs.Ask.{ask, askedBy, asks, fetchAt, fetchOf, loadsIn, wantFetch, wantLoad, wanted}
+use Rattle.pipeline.specs.Counting.{countIdle, counterFull, unlessFull}
 use Rattle.pipeline.specs.Fetch.{fetches}
-use Rattle.pipeline.specs.Move.{move}
-use Rattle.pipeline.specs.Names.{Accepted, Asked, Given, Instr, Mode, NoFetch, NoRequest, Normal, NotAsked}
-use Rattle.pipeline.specs.Names.{Nothing, Offer, PipelineCpu, RawInstr, RawNormal, RawShort, Short, Wants}
+use Rattle.pipeline.specs.Inner.{Tells, TellsAll, refusedWith, tickedOn}
+use Rattle.pipeline.specs.Move.{moveOf}
+use Rattle.pipeline.specs.Names.{Accepted, Counters, Given, Instr, Mode, NoFetch, NoRequest, Normal, NotAsked}
+use Rattle.pipeline.specs.Names.{Nothing, Offer, PipelineCpu, RawInstr, Wants}
 use Rattle.pipeline.specs.Parts.{retirePart}
-use Rattle.pipeline.specs.Retire.{retire}
-use Rattle.pipeline.specs.Tick.{Tests, badOffer, fitsOffer, givenTests, handedBack, isAnswer, mfsrOffer, pass}
-use Rattle.pipeline.specs.Tick.{same, taken, test, tests, tick, ticked, verdict}
+use Rattle.pipeline.specs.Refusals.{Tests, andThen, codeOf, faulty, outOfBounds, pass, stateTests, test}
+use Rattle.pipeline.specs.Retire.{retire, retireStages}
+use Rattle.pipeline.specs.Tick.{Result, fitsOffer, givenTests, handedBack, isAnswer, offerCode, same, taken}
+use Rattle.pipeline.specs.Tick.{tests, tick, ticked, verdict}
 
 pub fits-none : (f : Bool) → (m : Mode) → not f ≡ fitsOffer f m Nothing
 unfolding fitsOffer
@@ -26,160 +26,127 @@ fits-none true m = refl
 fits-none false m = refl
 
 pub fits-some : (f : Bool) → (m : Mode) → (i : RawInstr) → f && isOf m i ≡ fitsOffer f m (Instr i)
-unfolding fitsOffer isOf isShort
-fits-some true Normal (RawNormal i) = refl
-fits-some true Normal (RawShort h) = refl
-fits-some true Short (RawNormal i) = refl
-fits-some true Short (RawShort h) = refl
+unfolding fitsOffer
+fits-some true m i = refl
 fits-some false m i = refl
 
--- 11, 12, 13
-pub state-refuses :
-    (a b c : Bool) →
-    (rest : Tests) →
-    (s′ s : PipelineCpu) →
-    ltb 0 (cond a 11 (cond b 12 (cond c 13 0))) ≡ true →
-    refusedWith (cond a 11 (cond b 12 (cond c 13 0))) s
-    ≡ handedBack (verdict (test a 11 (test b 12 (test c 13 rest))) s′) s
-unfolding refusedWith handedBack verdict
-state-refuses true b c rest s′ s e = refl
-state-refuses false true c rest s′ s e = refl
-state-refuses false false true rest s′ s e = refl
-state-refuses false false false rest s′ s e = absurd (false≢true e)
+-- Any list of tests c, before tests d: a test that holds has a number other than 0.
+unfoldable Sure : Tests → Type 0
+Sure pass = Unit {0}
+Sure (test b n c) = (b ≡ true → ltb 0 n ≡ true) × Sure c
 
-pub state-passes :
-    (a b c : Bool) →
-    (rest : Tests) →
-    (s′ s : PipelineCpu) →
-    ltb 0 (cond a 11 (cond b 12 (cond c 13 0))) ≡ false →
-    handedBack (verdict rest s′) s ≡ handedBack (verdict (test a 11 (test b 12 (test c 13 rest))) s′) s
-unfolding verdict
-state-passes true b c rest s′ s e = absurd (false≢true (sym e))
-state-passes false true c rest s′ s e = absurd (false≢true (sym e))
-state-passes false false true rest s′ s e = absurd (false≢true (sym e))
-state-passes false false false rest s′ s e = refl
+tests-refuse : (c d : Tests) (s′ s : PipelineCpu) → ltb 0 (codeOf c) ≡ true
+    → refusedWith (codeOf c) s ≡ handedBack (verdict (andThen c d) s′) s
+unfolding codeOf andThen refusedWith handedBack verdict
+tests-refuse pass d s′ s e = absurd (false≢true e)
+tests-refuse (test true n c) d s′ s e = refl
+tests-refuse (test false n c) d s′ s e = tests-refuse c d s′ s e
 
-pub ask-refuses :
-    (a b c : Bool) →
-    (w : Asked) →
-    ltb 0 (cond a 11 (cond b 12 (cond c 13 0))) ≡ true →
-    NotAsked (cond a 11 (cond b 12 (cond c 13 0)))
-    ≡ cond a (NotAsked 11) (cond b (NotAsked 12) (cond c (NotAsked 13) w))
-ask-refuses true b c w e = refl
-ask-refuses false true c w e = refl
-ask-refuses false false true w e = refl
-ask-refuses false false false w e = absurd (false≢true e)
+tests-pass : (c d : Tests) (s′ : PipelineCpu) → Sure c → ltb 0 (codeOf c) ≡ false
+    → verdict (andThen c d) s′ ≡ verdict d s′
+unfolding codeOf Sure andThen verdict
+tests-pass pass d s′ p e = refl
+tests-pass (test true n c) d s′ p e = absurd (false≢true (sym e ∙ p .0 refl))
+tests-pass (test false n c) d s′ p e = tests-pass c d s′ (p .1) e
 
-pub ask-passes :
-    (a b c : Bool) →
-    (w : Asked) →
-    ltb 0 (cond a 11 (cond b 12 (cond c 13 0))) ≡ false →
-    w ≡ cond a (NotAsked 11) (cond b (NotAsked 12) (cond c (NotAsked 13) w))
-ask-passes true b c w e = absurd (false≢true (sym e))
-ask-passes false true c w e = absurd (false≢true (sym e))
-ask-passes false false true w e = absurd (false≢true (sym e))
-ask-passes false false false w e = refl
+-- the same with no tests behind them
+and-pass : (c : Tests) → andThen c pass ≡ c
+unfolding andThen
+and-pass pass = refl
+and-pass (test b n c) = ap (test b n) (and-pass c)
 
--- 1, 2, 3, 4
-code : Bool → Bool → Bool → Bool → ℕ
-code a b f m = cond (ltb 0 (cond a 1 (cond b 2 0))) (cond a 1 (cond b 2 0)) (cond f (cond m 0 4) 3)
+all-refuse : (c : Tests) (s′ s : PipelineCpu) → ltb 0 (codeOf c) ≡ true
+    → refusedWith (codeOf c) s ≡ handedBack (verdict c s′) s
+all-refuse c s′ s e = tests-refuse c pass s′ s e ∙ ap (λ (x : Tests). handedBack (verdict x s′) s) (and-pass c)
 
-given-refuses :
-    (a b f m : Bool) →
-    (s′ s : PipelineCpu) →
-    ltb 0 (code a b f m) ≡ true →
-    refusedWith (code a b f m) s
-    ≡ handedBack (verdict (test a 1 (test b 2 (test (not f) 3 (test (not m) 4 pass)))) s′) s
-unfolding code refusedWith handedBack verdict
-given-refuses true b f m s′ s e = refl
-given-refuses false true f m s′ s e = refl
-given-refuses false false false m s′ s e = refl
-given-refuses false false true false s′ s e = refl
-given-refuses false false true true s′ s e = absurd (false≢true e)
+all-pass : (c : Tests) (s′ s : PipelineCpu) → Sure c → ltb 0 (codeOf c) ≡ false
+    → record { state = s′; outcome = Accepted } ≡ handedBack (verdict c s′) s
+unfolding handedBack verdict
+all-pass c s′ s p e = ap (λ (r : Result). handedBack r s) (sym (tests-pass c pass s′ p e))
+    ∙ ap (λ (x : Tests). handedBack (verdict x s′) s) (and-pass c)
 
-given-passes :
-    (a b f m : Bool) →
-    (s′ s : PipelineCpu) →
-    ltb 0 (code a b f m) ≡ false →
-    record { state = s′; outcome = Accepted }
-    ≡ handedBack (verdict (test a 1 (test b 2 (test (not f) 3 (test (not m) 4 pass)))) s′) s
-unfolding code handedBack verdict
-given-passes true b f m s′ s e = absurd (false≢true (sym e))
-given-passes false true f m s′ s e = absurd (false≢true (sym e))
-given-passes false false false m s′ s e = absurd (false≢true (sym e))
-given-passes false false true false s′ s e = absurd (false≢true (sym e))
-given-passes false false true true s′ s e = refl
+sure-state : (f : Bool) (s : PipelineCpu) → Sure (stateTests f s)
+unfolding Sure stateTests
+sure-state f s = ((λ e. refl), ((λ e. refl), ((λ e. refl), tt)))
+
+sure-given : (f : Bool) (m : Mode) (d : Bool) (t : Given) → Sure (givenTests f m d t)
+unfolding Sure givenTests
+sure-given f m d t = ((λ e. e), ((λ e. refl), ((λ e. refl), tt)))
+
+-- 4, where 1, 2 and 3 do not arise
+pub given-late : (fetch : Bool) (m : Mode) (load : Bool) (t : Given) (k : ℕ) (f b : Bool) → k ≡ offerCode (t .offer)
+    → ltb 0 k ≡ false → f ≡ fitsOffer fetch m (t .offer) → not f ≡ false → b ≡ same load (isAnswer (t .answer))
+    → codeOf (givenTests fetch m load t) ≡ cond (not b) 4 0
+unfolding givenTests codeOf
+given-late fetch m load t k f b ek lk ef nf eb = rw (sym ek, lk, sym ef, nf, sym eb)
 
 -- the code of what a tick is given
 unfoldable pub tickCode : PipelineCpu → Given → ℕ
-tickCode s t = givenCode (wantFetch s) ((fetchAt s) .1) (wantLoad s) t
+tickCode s t = codeOf (givenTests (wantFetch s) ((fetchAt s) .mode) (wantLoad (s .stages)) t)
 
-pub on-refuses :
-    (s : PipelineCpu) → (t : Given) → (k : ℕ) → k ≡ tickCode s t → ltb 0 k ≡ true → refusedWith k s ≡ tickedOn s t
-unfolding tickCode givenCode offerCode answerCode tickedOn givenTests code
-on-refuses s t k e l =
-    rw e (given-refuses (badOffer (t .offer)) (mfsrOffer (t .offer)) (fitsOffer (wantFetch s) ((fetchAt s) .1)
-    (t .offer))
-    (same (wantLoad s) (isAnswer (t .answer))) (next s (taken t)) s (ap (ltb 0) (sym e) ∙ l))
+module _ (s : PipelineCpu) (t : Given) (k : ℕ) where
+  pub on-refuses : k ≡ tickCode s t → ltb 0 k ≡ true → refusedWith k s ≡ tickedOn s t
+  unfolding tickCode tickedOn
+  on-refuses e l = rw e (all-refuse _ _ s (ap (ltb 0) (sym e) ∙ l))
 
-pub on-passes :
-    (s : PipelineCpu) →
-    (t : Given) →
-    (k : ℕ) →
-    k ≡ tickCode s t →
-    ltb 0 k ≡ false →
-    record { state = next s (taken t); outcome = Accepted } ≡ tickedOn s t
-unfolding tickCode givenCode offerCode answerCode tickedOn givenTests code
-on-passes s t k e l = given-passes (badOffer (t .offer)) (mfsrOffer (t .offer))
-    (fitsOffer (wantFetch s) ((fetchAt s) .1) (t .offer))
-    (same (wantLoad s) (isAnswer (t .answer))) (next s (taken t)) s (ap (ltb 0) (sym e) ∙ l)
+  pub on-passes : k ≡ tickCode s t → ltb 0 k ≡ false
+      → record { state = next s (taken t); outcome = Accepted } ≡ tickedOn s t
+  unfolding tickCode tickedOn
+  on-passes e l = all-pass _ _ s (sure-given _ _ _ _) (ap (ltb 0) (sym e) ∙ l)
 
--- the same of the state
-pub stands-refuses :
-    (s : PipelineCpu) → (t : Given) → (k : ℕ) → Stands s k → ltb 0 k ≡ true → refusedWith k s ≡ ticked s t
-unfolding standing ticked tick tests
-stands-refuses s t k d l = rw (d .is) (state-refuses _ _ _ _ _ s (ap (ltb 0) (sym (d .is)) ∙ l))
+  -- the same of the state
+  pub state-refuses : k ≡ codeOf (stateTests (faulty (s .stages)) s) → ltb 0 k ≡ true → refusedWith k s ≡ ticked s t
+  unfolding ticked tick tests
+  state-refuses e l = rw e (tests-refuse _ _ _ s (ap (ltb 0) (sym e) ∙ l))
 
-pub stands-passes :
-    (s : PipelineCpu) → (t : Given) → (k : ℕ) → Stands s k → ltb 0 k ≡ false → tickedOn s t ≡ ticked s t
-unfolding standing ticked tick tests tickedOn
-stands-passes s t k d l = state-passes _ _ _ _ _ s (ap (ltb 0) (sym (d .is)) ∙ l)
+  pub state-passes : k ≡ codeOf (stateTests (faulty (s .stages)) s) → ltb 0 k ≡ false → tickedOn s t ≡ ticked s t
+  unfolding ticked tick tests tickedOn
+  state-passes e l = ap (λ (r : Result). handedBack r s) (sym (tests-pass _ _ _ (sure-state _ s) (ap (ltb 0)
+      (sym e) ∙ l)))
 
--- not running
-fits-false : (m : Mode) → (o : Offer) → fitsOffer false Normal o ≡ fitsOffer false m o
+-- where 11, 12 and 13 do not apply no counter is full
+pub state-room : (f : Bool) (s : PipelineCpu) (k : ℕ) → k ≡ codeOf (stateTests f s) → ltb 0 k ≡ false
+    → counterFull (s .counts) ≡ false
+unfolding stateTests codeOf
+state-room f s k e l = room-by (outOfBounds (s .stages)) f (counterFull (s .counts)) (ap (ltb 0) (sym e) ∙ l) where
+  room-by : (a b c : Bool) → ltb 0 (cond a 11 (cond b 12 (cond c 13 0))) ≡ false → c ≡ false
+  room-by true b c e = absurd (false≢true (sym e))
+  room-by false true c e = absurd (false≢true (sym e))
+  room-by false false true e = absurd (false≢true (sym e))
+  room-by false false false e = refl
+
+-- nothing moves
+pub fits-false : (m : Mode) → (o : Offer) → fitsOffer false Normal o ≡ fitsOffer false m o
 unfolding fitsOffer
 fits-false m Nothing = refl
 fits-false m (Instr i) = refl
 
-idle-fetch : (s : PipelineCpu) → s .running ≡ false → wantFetch s ≡ false
-unfolding wantFetch awake
-idle-fetch s e = ap (λ (b : Bool). b && ((retire s) .running && fetches (move (retire s)))) e
+module _ (s : PipelineCpu) (e : awake (s .stages) ≡ false) where
+  rest-fetch : wantFetch s ≡ false
+  unfolding wantFetch
+  rest-fetch = ap (λ (b : Bool). b && (((retire s) .stages) .running && fetches (moveOf (retire s)))) e
 
-idle-load : (s : PipelineCpu) → s .running ≡ false → wantLoad s ≡ false
-unfolding wantLoad awake
-idle-load s e = ap (λ (b : Bool). b && (((retire s) .«ex_mem») .valid && loads ((retire s) .«ex_mem»))) e
+  rest-load : wantLoad (s .stages) ≡ false
+  unfolding wantLoad
+  rest-load = ap (λ (b : Bool). b && loadsIn (retireStages (s .stages))) e
 
-pub idle-code : (s : PipelineCpu) → (t : Given) → s .running ≡ false → givenCode false Normal false t ≡ tickCode s t
-unfolding tickCode givenCode
-idle-code s t e = rw (idle-fetch s e, idle-load s e, fits-false ((fetchAt s) .1) (t .offer))
+  pub rest-code : (t : Given) → codeOf (givenTests false Normal false t) ≡ tickCode s t
+  unfolding tickCode givenTests codeOf
+  rest-code t = rw (rest-fetch, rest-load, fits-false ((fetchAt s) .mode) (t .offer))
 
-pub idle-next : (s : PipelineCpu) → (t : Given) → s .running ≡ false → idle s ≡ next s (taken t)
-unfolding next awake resting
-idle-next s t e =
-    sym (ap (λ (b : Bool). cond b (advance (move (retire s)) (retire s) (taken t)) (idle s)) e)
+  pub rest-next : (t : Given) (c : Counters) → c ≡ unlessFull (s .counts) (countIdle (s .counts))
+      → counterFull (s .counts) ≡ false → record { reg = s .reg; stages = s .stages; counts = c } ≡ next s (taken t)
+  unfolding next resting unlessFull
+  rest-next t c ec r = rw (ec, r, e)
 
--- not running, nothing is wanted
-pub idle-wants : (s : PipelineCpu) → s .running ≡ false → record { fetch = NoFetch; request = NoRequest } ≡ wanted s
-unfolding wanted asks awake fetchOf requestIn
-idle-wants s e = rw (idle-fetch s e)
-    (ap (λ (b : Bool). record {
-      fetch = NoFetch;
-      request = requestIn (cond b (requests ((retire s) .«ex_mem»)) []);
-    }) (sym e))
+  -- and nothing is wanted
+  pub rest-wants : record { fetch = NoFetch; request = NoRequest } ≡ wanted s
+  unfolding wanted asks fetchOf requestIn
+  rest-wants = rw (rest-fetch, e)
 
 -- five counters, each told
-pub brims :
-    (s : PipelineCpu) →
+pub full-by :
+    (s : Counters) →
     (b1 b2 b3 b4 b5 : Bool) →
     Tells (s .cycles) b1 →
     Tells (s .«running_cycles») b2 →
@@ -187,8 +154,8 @@ pub brims :
     Tells (s .«stall_cycles») b4 →
     Tells (s .«flush_events») b5 →
     TellsAll s (b1 || (b2 || (b3 || (b4 || b5))))
-unfolding brimming
-brims s b1 b2 b3 b4 b5 t1 t2 t3 t4 t5 = record {
+unfolding counterFull
+full-by s b1 b2 b3 b4 b5 t1 t2 t3 t4 t5 = record {
   is = rw (t1 .is, t2 .is, t3 .is, t4 .is, t5 .is);
   room = λ e. let e2 = or-r b1 _ e in let e3 = or-r b2 _ e2 in let e4 = or-r b3 _ e3 in record {
     cycles = t1 .room (or-l b1 _ e);
@@ -200,28 +167,19 @@ brims s b1 b2 b3 b4 b5 t1 t2 t3 t4 t5 = record {
 }
 
 -- asking and retirement, by the code of the state
-pub asked-refuses : (s : PipelineCpu) → (k : ℕ) → Stands s k → ltb 0 k ≡ true → NotAsked k ≡ ask s
-unfolding standing ask wanted
-asked-refuses s k d l = ap NotAsked (d .is)
-    ∙ ask-refuses (broken s) (stuck s) (brimming s) (Wants (wanted s)) (ap (ltb 0) (sym (d .is)) ∙ l)
+module _ (s : PipelineCpu) (k : ℕ) (e : k ≡ codeOf (stateTests (faulty (s .stages)) s)) where
+  pub asked-refuses : ltb 0 k ≡ true → NotAsked k ≡ ask s
+  unfolding ask askedBy
+  asked-refuses l = rw (sym e, l)
 
-pub asked-passes : (s : PipelineCpu) → (k : ℕ) → Stands s k → ltb 0 k ≡ false → Wants (wanted s) ≡ ask s
-unfolding standing ask wanted
-asked-passes s k d l =
-    ask-passes (broken s) (stuck s) (brimming s) (Wants (wanted s)) (ap (ltb 0) (sym (d .is)) ∙ l)
+  pub asked-passes : ltb 0 k ≡ false → Wants (wanted s) ≡ ask s
+  unfolding ask askedBy
+  asked-passes l = rw (sym e, l)
 
-pub retire-refuses : (s : PipelineCpu) → (k : ℕ) → Stands s k → ltb 0 k ≡ true → refusedWith k s ≡ retirePart s
-unfolding standing retirePart
-retire-refuses s k d l =
-    ap (λ (n : ℕ). refusedWith n s) (d .is)
-    ∙ state-refuses (broken s) (stuck s) (brimming s) pass (retire s) s (ap (ltb 0) (sym (d .is)) ∙ l)
+  pub retire-refuses : ltb 0 k ≡ true → refusedWith k s ≡ retirePart s
+  unfolding retirePart
+  retire-refuses l = rw e (all-refuse _ _ s (ap (ltb 0) (sym e) ∙ l))
 
-pub retire-passes :
-    (s : PipelineCpu) →
-    (k : ℕ) →
-    Stands s k →
-    ltb 0 k ≡ false →
-    record { state = retire s; outcome = Accepted } ≡ retirePart s
-unfolding standing retirePart handedBack verdict
-retire-passes s k d l =
-    state-passes (broken s) (stuck s) (brimming s) pass (retire s) s (ap (ltb 0) (sym (d .is)) ∙ l)
+  pub retire-passes : ltb 0 k ≡ false → record { state = retire s; outcome = Accepted } ≡ retirePart s
+  unfolding retirePart
+  retire-passes l = all-pass _ _ s (sure-state _ s) (ap (ltb 0) (sym e) ∙ l)

@@ -1,248 +1,122 @@
--- A tick of a running machine, by the stages that retirement leaves and their plan.
-use Prim.Native.Nat.{_<_, ℕ}
-use mathlib.Core.Bool.{Bool, _&&_, cond, true}
-use mathlib.Core.List.{List, []}
-use mathlib.Core.Path.{_∙_, _≡_, ap, refl, subst, sym}
+-- A tick that moves, by the stages and registers that retirement leaves. Assumes nothing.
+use Prim.Native.Nat.{ℕ}
+use mathlib.Core.Bool.{Bool, _&&_, false, not, true}
+use mathlib.Core.List.{List}
+use mathlib.Core.Path.{_∙_, _≡_, refl, sym}
 use Rattle.isa.proofs.Bools.{split}
 use Rattle.isa.specs.Waits.{predict}
 use Rattle.latch.specs.Decode.{decodePredicted, idExOf}
-use Rattle.latch.specs.Memory.{loads, requestIn, requests}
-use Rattle.pipeline.proofs.Refusing.{tickCode}
-use Rattle.pipeline.specs.Advance.{Taken, advance, advanceBy, awake, next, resting}
-use Rattle.pipeline.specs.Ask.{asks, fetchAt, fetchOf, wantFetch, wantLoad}
-use Rattle.pipeline.specs.Codes.{Counts, givenCode, planFetches, stageLoads, wanted}
-use Rattle.pipeline.specs.Fetch.{fetchPlace, fetches, nextIdEx, predicted}
-use Rattle.pipeline.specs.Move.{move, nextExMem}
-use Rattle.pipeline.specs.Names.{ExMem, Fetch, Given, IdEx, IfId, Mode, Move, PipelineCpu, Plan, RawInstr, Request}
-use Rattle.pipeline.specs.Names.{Stages}
-use Rattle.pipeline.specs.Names.{beginWait, keepWaiting, loadUseStall, proceed, redirect}
-use Rattle.pipeline.specs.Retire.{retire}
-use Rattle.pipeline.specs.Stages.{Room, advancePlan, frontFor, frontOf, idExFrom, placeFrom, planOf, predictIf}
-use Rattle.pipeline.specs.Stages.{stagesOf, view}
-use Rattle.pipeline.specs.Tick.{rawOf, taken, wordIn}
+use Rattle.latch.specs.Latches.{emptyExMem}
+use Rattle.latch.specs.Memory.{requestIn, requests}
+use Rattle.latch.specs.Retire.{halts}
+use Rattle.pipeline.proofs.Refusing.{fits-false, tickCode}
+use Rattle.pipeline.specs.Advance.{advance, advanceBy, advanceStages, awake, idExAfter, ifIdAfter, next}
+use Rattle.pipeline.specs.Advance.{placeAfter}
+use Rattle.pipeline.specs.Ask.{asks, fetchAt, fetchOf, loadsIn, wantFetch, wantLoad, wanted}
+use Rattle.pipeline.specs.Counting.{countRetired, counted, stalls, unlessFull}
+use Rattle.pipeline.specs.Fetch.{fetches, nextIdEx, predicted}
+use Rattle.pipeline.specs.Inner.{Retired}
+use Rattle.pipeline.specs.Move.{freeMove, isWait, move, moveOf, nextExMem, waitsOn}
+use Rattle.pipeline.specs.Names.{Counters, Fetch, Given, Move, NoFetch, Normal, PipelineCpu, Plan, Request}
+use Rattle.pipeline.specs.Names.{Stages, Taken, keepWaiting}
+use Rattle.pipeline.specs.Plans.{advancePlan, frontOf, idExFrom, planFetches, planOf, waited}
+use Rattle.pipeline.specs.Refusals.{codeOf}
+use Rattle.pipeline.specs.Retire.{retire, retireStages}
+use Rattle.pipeline.specs.Tick.{givenTests}
 
-pub view-stages : (s : PipelineCpu) → view (stagesOf s) (s .reg) ≡ s
-unfolding view stagesOf
-view-stages s = refl
+id-ex-next : (l : Stages) → (rs : List ℕ) → idExFrom (l .«if_id») (frontOf (l .«if_id»)) rs ≡ nextIdEx l rs
+unfolding idExFrom frontOf nextIdEx decodePredicted idExOf predicted predict
+id-ex-next l rs = split ((l .«if_id») .valid) (λ e. rw e) (λ e. rw e)
 
-place-fetch :
-    (m : Move) →
-    (s : PipelineCpu) → (
-      (placeFrom m ((frontOf (s .«if_id»)) .predicted) (s .«fetch_pc») (s .«fetch_mode»)) .pc,
-      (placeFrom m ((frontOf (s .«if_id»)) .predicted) (s .«fetch_pc») (s .«fetch_mode»)) .mode,
-    )
-    ≡ fetchPlace m s
-unfolding placeFrom fetchPlace frontOf predictIf predicted predict
-place-fetch keepWaiting s = refl
-place-fetch beginWait s = refl
-place-fetch (loadUseStall g) s = refl
-place-fetch proceed s = refl
-place-fetch (redirect p m) s = refl
+planned : (l : Stages) (rs : List ℕ) (x : Taken)
+    → advancePlan (planOf l rs) l rs x ≡ advanceStages (freeMove l rs) l rs x
+unfolding advancePlan planOf advanceStages
+planned l rs x = rw (id-ex-next l rs)
 
-pub plan-place : (s : PipelineCpu) → (((planOf s) .place) .pc, ((planOf s) .place) .mode) ≡ fetchPlace (move s) s
-unfolding planOf
-plan-place s = place-fetch (move s) s
+-- a wait looks at neither the next ID/EX nor the place to fetch from
+waits-so : (l : Stages) (rs : List ℕ) (x : Taken) → waited l x ≡ advanceStages keepWaiting l rs x
+unfolding waited advanceStages advanceBy idExAfter ifIdAfter placeAfter nextExMem isWait
+waits-so l rs x = refl
 
--- the wants of a tick, by the stages
-pub want-fetch :
-    (s : PipelineCpu) →
-    (l : Stages) →
-    (rs : List ℕ) →
-    (p : Plan) →
-    view l rs ≡ retire s →
-    p ≡ planOf (view l rs) →
-    s .running ≡ true →
-    planFetches l p ≡ wantFetch s
-unfolding planFetches wantFetch awake planOf view
-want-fetch s l rs p e q r =
-    ap (λ (y : Plan). l .running && fetches (y .step)) q
-    ∙ ap (λ (v : PipelineCpu). v .running && fetches (move v)) e
-    ∙ sym (ap (λ (b : Bool). b && ((retire s) .running && fetches (move (retire s)))) r)
+module _ (s : PipelineCpu) (l : Stages) (rs : List ℕ) (b : Retired s l rs) where
+  want-load : loadsIn l ≡ wantLoad (s .stages)
+  unfolding wantLoad
+  want-load = rw (b .stages, b .awake)
 
-pub want-load :
-    (s : PipelineCpu) → (l : Stages) → (rs : List ℕ) → view l rs ≡ retire s → s .running ≡ true → stageLoads l ≡
-    wantLoad s
-unfolding stageLoads wantLoad awake view
-want-load s l rs e r =
-    ap (λ (v : PipelineCpu). (v .«ex_mem») .valid && loads (v .«ex_mem»)) e
-    ∙ sym (ap (λ (b : Bool). b && (((retire s) .«ex_mem») .valid && loads ((retire s) .«ex_mem»))) r)
+  moves-by : (m : Move) → move l rs ≡ m → moveOf (retire s) ≡ m
+  unfolding retire
+  moves-by m e = rw (sym (b .stages), sym (b .reg)) e
 
-pub fetch-at :
-    (s : PipelineCpu) →
-    (l : Stages) →
-    (rs : List ℕ) →
-    (p : Plan) →
-    view l rs ≡ retire s →
-    p ≡ planOf (view l rs) →
-    ((p .place) .pc, (p .place) .mode) ≡ fetchAt s
-unfolding fetchAt
-fetch-at s l rs p e q = rw (q, sym e) (plan-place (view l rs))
+  wants-by : (m : Move) → move l rs ≡ m → wantFetch s ≡ (l .running && fetches m)
+  unfolding wantFetch retire
+  wants-by m e = rw (sym (b .stages), sym (b .reg), e, b .awake)
 
-id-ex-next : (s : PipelineCpu) → idExFrom (s .«if_id») (frontOf (s .«if_id»)) (s .reg) ≡ nextIdEx s
-unfolding idExFrom frontOf nextIdEx decodePredicted idExOf predictIf predict
-id-ex-next s = split ((s .«if_id») .valid) (λ e. rw e) (λ e. rw e)
+  next-by : (m : Move) (a : Stages) (c : Counters) (x y : Taken) → move l rs ≡ m → a ≡ advanceStages m l rs x
+      → c ≡ unlessFull (s .counts) (counted m (countRetired ((l .«mem_wb») .valid) (s .counts))) → x ≡ y
+      → record { reg = rs; stages = a; counts = c } ≡ next s y
+  unfolding next advance retire retireStages unlessFull
+  next-by m a c x y em ea ec ex = rw (moves-by m em, ea, ec, ex, b .room, b .stages, b .reg, b .awake)
 
--- where a wait goes on, the next ID/EX is not looked at
-unlooked :
-    (m : Move) →
-    (l : ExMem) →
-    (f : IfId) →
-    (rs : List ℕ) →
-    (p : ℕ × Mode) →
-    (s : PipelineCpu) →
-    (x : Taken) →
-    advanceBy m l (idExFrom f (frontFor m f) rs) p s x ≡ advanceBy m l (idExFrom f (frontOf f) rs) p s x
-unfolding frontFor advanceBy
-unlooked keepWaiting l f rs p s x = refl
-unlooked beginWait l f rs p s x = refl
-unlooked (loadUseStall g) l f rs p s x = refl
-unlooked proceed l f rs p s x = refl
-unlooked (redirect q m) l f rs p s x = refl
+  wants-of : (f : Bool) (g : Fetch) (x : Request) → f ≡ wantFetch s → g ≡ fetchOf f (fetchAt s)
+      → x ≡ requestIn (requests (l .«ex_mem»)) → record { fetch = g; request = x } ≡ wanted s
+  unfolding wanted asks
+  wants-of f g x ef eg ex = rw (eg, ex, ef, b .stages, b .awake)
 
-planned :
-    (v : PipelineCpu) →
-    (x : Taken) →
-    advanceBy ((planOf v) .step) ((planOf v) .«ex_mem») (idExFrom (v .«if_id») ((planOf v) .front) (v .reg))
-    (fetchPlace (move v) v) v x
-    ≡ advanceBy (move v) (nextExMem (move v) v) (nextIdEx v) (fetchPlace (move v) v) v x
-unfolding planOf
-planned v x =
-    unlooked (move v) (nextExMem (move v) v) (v .«if_id») (v .reg) (fetchPlace (move v) v) v x
-    ∙ ap (λ (d : IdEx). advanceBy (move v) (nextExMem (move v) v) d (fetchPlace (move v) v) v x) (id-ex-next v)
+  -- a wait goes on
+  module _ (w : waitsOn l ≡ true) where
+    keeps : move l rs ≡ keepWaiting
+    unfolding move
+    keeps = rw w
 
-advanced :
-    (v : PipelineCpu) →
-    (x : Taken) →
-    advanceBy ((planOf v) .step) ((planOf v) .«ex_mem») (idExFrom (v .«if_id») ((planOf v) .front) (v .reg))
-    (((planOf v) .place) .pc, ((planOf v) .place) .mode) v x
-    ≡ advance (move v) v x
-unfolding advance
-advanced v x =
-    ap (λ (p : ℕ × Mode). advanceBy ((planOf v) .step) ((planOf v) .«ex_mem»)
-    (idExFrom (v .«if_id») ((planOf v) .front) (v .reg)) p v x)
-    (plan-place v)
-    ∙ planned v x
+    pub no-fetch : wantFetch s ≡ false
+    unfolding fetches stalls
+    no-fetch = wants-by keepWaiting keeps ∙ split (l .running) (λ e. rw e) (λ e. rw e)
 
-by-stages :
-    (l : Stages) →
-    (rs : List ℕ) →
-    (i : RawInstr) →
-    (w : ℕ) →
-    advancePlan (planOf (view l rs)) l rs i w
-    ≡ advance (move (view l rs)) (view l rs) (record { answer = w; raw = i })
-unfolding advancePlan view
-by-stages l rs i w = advanced (view l rs) (record { answer = w; raw = i })
+    pub wait-wants : (x : Request) → x ≡ requestIn (requests (l .«ex_mem»))
+        → record { fetch = NoFetch; request = x } ≡ wanted s
+    unfolding fetchOf
+    wait-wants x ex = wants-of false NoFetch x (sym no-fetch) refl ex
 
--- the state after the tick, by the stages after the move of the plan
-pub advance-next :
-    (s : PipelineCpu) →
-    (l a : Stages) →
-    (rs : List ℕ) →
-    (p : Plan) →
-    (i : RawInstr) →
-    (w : ℕ) →
-    view l rs ≡ retire s →
-    p ≡ planOf (view l rs) →
-    s .running ≡ true →
-    view a rs ≡ advancePlan p l rs i w →
-    view a rs ≡ next s (record { answer = w; raw = i })
-unfolding next awake
-advance-next s l a rs p i w e q r h =
-    h
-    ∙ ap (λ (y : Plan). advancePlan y l rs i w) q
-    ∙ by-stages l rs i w
-    ∙ ap (λ (v : PipelineCpu). advance (move v) v (record { answer = w; raw = i })) e
-    ∙ sym (ap (λ (b : Bool). cond b (advance (move (retire s)) (retire s) (record { answer = w; raw = i }))
-    (resting s)) r)
+    pub wait-code : (t : Given) (k : ℕ) (d : Bool) → d ≡ loadsIn l → k ≡ codeOf (givenTests false Normal d t)
+        → k ≡ tickCode s t
+    unfolding tickCode givenTests codeOf
+    wait-code t k d ed ek = rw (ek, ed, want-load, no-fetch, fits-false ((fetchAt s) .mode) (t .offer))
 
-pub retired-view :
-    (s : PipelineCpu) →
-    (l l0 : Stages) →
-    (rs : List ℕ) →
-    l0 ≡ stagesOf s →
-    view l rs ≡ retire (view l0 (s .reg)) →
-    view l rs ≡ retire s
-retired-view s l l0 rs e h =
-    h ∙ ap (λ (v : PipelineCpu). retire v) (ap (λ (x : Stages). view x (s .reg)) e ∙ view-stages s)
+    pub wait-next : (a : Stages) (c : Counters) (x y : Taken) → a ≡ waited l x
+        → c ≡ unlessFull (s .counts) (counted keepWaiting (countRetired ((l .«mem_wb») .valid) (s .counts))) → x ≡ y
+        → record { reg = rs; stages = a; counts = c } ≡ next s y
+    wait-next a c x y ea ec ex = next-by keepWaiting a c x y keeps (ea ∙ waits-so l rs x) ec ex
 
-pub room-after : (s : PipelineCpu) → (l : Stages) → (rs : List ℕ) → view l rs ≡ retire s → Counts s → Room l
-unfolding view retire
-room-after s l rs e c = record {
-  cycles = subst (λ n. n < 18446744073709551615) (sym (ap (λ (v : PipelineCpu). v .cycles) e)) (c .cycles);
-  «running_cycles» = subst (λ n. n < 18446744073709551615) (sym (ap (λ (v : PipelineCpu). v .«running_cycles») e))
-      (c .«running_cycles»);
-  «stall_cycles» = subst (λ n. n < 18446744073709551615) (sym (ap (λ (v : PipelineCpu). v .«stall_cycles») e))
-      (c .«stall_cycles»);
-  «flush_events» = subst (λ n. n < 18446744073709551615) (sym (ap (λ (v : PipelineCpu). v .«flush_events») e))
-      (c .«flush_events»);
-}
+  -- none goes on; p: the plan
+  module _ (w : waitsOn l ≡ false) (p : Plan) (ep : p ≡ planOf l rs) where
+    frees : move l rs ≡ p .step
+    unfolding move planOf
+    frees = rw (w, ep)
 
-pub run-wants :
-    (s : PipelineCpu) →
-    (l : Stages) →
-    (rs : List ℕ) →
-    (p : Plan) →
-    (b : Bool) →
-    (f : Fetch) →
-    (x : Request) →
-    view l rs ≡ retire s →
-    p ≡ planOf (view l rs) →
-    s .running ≡ true →
-    b ≡ planFetches l p →
-    f ≡ fetchOf b ((p .place) .pc, (p .place) .mode) →
-    x ≡ requestIn (requests (l .«ex_mem»)) →
-    record { fetch = f; request = x } ≡ wanted s
-unfolding wanted asks awake view
-run-wants s l rs p b f x e q r eb ef ex =
-    ap (λ (y : Fetch). record { fetch = y; request = x })
-    (ef
-    ∙ ap (λ (y : Bool). fetchOf y ((p .place) .pc, (p .place) .mode)) (eb ∙ want-fetch s l rs p e q r)
-    ∙ ap (λ (y : ℕ × Mode). fetchOf (wantFetch s) y) (fetch-at s l rs p e q))
-    ∙ ap (λ (y : Request). record { fetch = fetchOf (wantFetch s) (fetchAt s); request = y })
-    (ex
-    ∙ ap (λ (v : PipelineCpu). requestIn (requests (v .«ex_mem»))) e
-    ∙ sym (ap (λ (y : Bool). requestIn (cond y (requests ((retire s) .«ex_mem»)) [])) r))
+    pub want-fetch : planFetches l p ≡ wantFetch s
+    unfolding planFetches
+    want-fetch = sym (wants-by (p .step) frees)
 
-pub run-code :
-    (s : PipelineCpu) →
-    (l : Stages) →
-    (rs : List ℕ) →
-    (p : Plan) →
-    (t : Given) →
-    (k : ℕ) →
-    (b d : Bool) →
-    view l rs ≡ retire s →
-    p ≡ planOf (view l rs) →
-    s .running ≡ true →
-    b ≡ planFetches l p →
-    d ≡ stageLoads l →
-    k ≡ givenCode b ((p .place) .mode) d t →
-    k ≡ tickCode s t
-unfolding tickCode
-run-code s l rs p t k b d e q r eb ed ek =
-    ek
-    ∙ ap (λ (y : Bool). givenCode y ((p .place) .mode) d t) (eb ∙ want-fetch s l rs p e q r)
-    ∙ ap (λ (y : ℕ × Mode). givenCode (wantFetch s) (y .1) d t) (fetch-at s l rs p e q)
-    ∙ ap (λ (y : Bool). givenCode (wantFetch s) ((fetchAt s) .1) y t) (ed ∙ want-load s l rs e r)
+    pub fetch-at : p .place ≡ fetchAt s
+    unfolding fetchAt planOf retire
+    fetch-at = rw (moves-by (p .step) frees, ep, b .stages)
 
-pub run-next :
-    (s : PipelineCpu) →
-    (l a : Stages) →
-    (rs : List ℕ) →
-    (p : Plan) →
-    (t : Given) →
-    (w : ℕ) →
-    (i : RawInstr) →
-    view l rs ≡ retire s →
-    p ≡ planOf (view l rs) →
-    s .running ≡ true →
-    w ≡ wordIn (t .answer) →
-    i ≡ rawOf (t .offer) →
-    view a rs ≡ advancePlan p l rs i w →
-    view a rs ≡ next s (taken t)
-unfolding taken
-run-next s l a rs p t w i e q r ew ei h =
-    advance-next s l a rs p (rawOf (t .offer)) (wordIn (t .answer)) e q r
-    (h
-    ∙ ap (λ (y : ℕ). advancePlan p l rs i y) ew
-    ∙ ap (λ (y : RawInstr). advancePlan p l rs y (wordIn (t .answer))) ei)
+    pub plan-wants : (f : Bool) (g : Fetch) (x : Request) → f ≡ planFetches l p → g ≡ fetchOf f (p .place)
+        → x ≡ requestIn (requests (l .«ex_mem»)) → record { fetch = g; request = x } ≡ wanted s
+    plan-wants f g x ef eg ex = wants-of f g x (ef ∙ want-fetch) (rw fetch-at at eg) ex
+
+    pub plan-code : (t : Given) (k : ℕ) (f d : Bool) → f ≡ planFetches l p → d ≡ loadsIn l
+        → k ≡ codeOf (givenTests f ((p .place) .mode) d t) → k ≡ tickCode s t
+    unfolding tickCode
+    plan-code t k f d ef ed ek = rw (ek, ef, ed, want-fetch, want-load, fetch-at)
+
+    pub plan-next : (a : Stages) (c : Counters) (x y : Taken) → a ≡ advancePlan p l rs x
+        → c ≡ unlessFull (s .counts) (counted (p .step) (countRetired ((l .«mem_wb») .valid) (s .counts))) → x ≡ y
+        → record { reg = rs; stages = a; counts = c } ≡ next s y
+    unfolding planOf
+    plan-next a c x y ea ec ex = next-by (p .step) a c x y frees (ea ∙ rw ep (planned l rs x)) ec ex
+
+-- a load is asked for after retirement: a HALT in MEM/WB empties EX/MEM first
+pub loads-after : (l : Stages) → awake l && (not (halts (l .«mem_wb»)) && loadsIn l) ≡ wantLoad l
+unfolding wantLoad loadsIn retireStages emptyExMem
+loads-after l = split (halts (l .«mem_wb»)) (λ e. rw e) (λ e. rw e)

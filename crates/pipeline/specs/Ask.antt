@@ -1,58 +1,45 @@
 -- Asking beforehand: what a tick will want, or refusal 11, 12 or 13.
 use Prim.Native.Nat.{ℕ}
-use lib.Dec.{eqb, ltb}
-use mathlib.Core.Bool.{Bool, _&&_, _||_, cond, false, true}
+use lib.Dec.{ltb}
+use mathlib.Core.Bool.{Bool, _&&_, cond, false, true}
 use mathlib.Core.List.{List, []}
-use Rattle.latch.specs.Bounds.{badExMem, badIdEx, badIfId, badMemWb}
 use Rattle.latch.specs.Memory.{loads, requestIn, requests}
-use Rattle.latch.specs.Retire.{isFaulty}
 use Rattle.pipeline.specs.Advance.{awake}
 use Rattle.pipeline.specs.Fetch.{fetchPlace, fetches}
-use Rattle.pipeline.specs.Move.{move}
-use Rattle.pipeline.specs.Names.{Asked, Fetch, From, Mode, NoFetch, NotAsked, PipelineCpu, Request, Wants}
-use Rattle.pipeline.specs.Retire.{retire}
+use Rattle.pipeline.specs.Move.{moveOf}
+use Rattle.pipeline.specs.Names.{Asked, Fetch, From, NoFetch, NotAsked, PipelineCpu, Place, Request, Stages}
+use Rattle.pipeline.specs.Names.{Wanted, Wants}
+use Rattle.pipeline.specs.Refusals.{codeOf, faulty, stateTests}
+use Rattle.pipeline.specs.Retire.{retire, retireStages}
 
 unfoldable pub wantFetch : PipelineCpu → Bool
-wantFetch s = awake s && ((retire s) .running && fetches (move (retire s)))
+wantFetch s = awake (s .stages) && (((retire s) .stages) .running && fetches (moveOf (retire s)))
 
-unfoldable pub fetchAt : PipelineCpu → ℕ × Mode
-fetchAt s = fetchPlace (move (retire s)) (retire s)
+unfoldable pub fetchAt : PipelineCpu → Place
+fetchAt s = fetchPlace (moveOf (retire s)) ((retire s) .stages)
 
 -- the load or store asked for, if any
-unfoldable pub asks : PipelineCpu → List Request
-asks s = cond (awake s) (requests ((retire s) .«ex_mem»)) []
+unfoldable pub asks : Stages → List Request
+asks l = cond (awake l) (requests ((retireStages l) .«ex_mem»)) []
 
-unfoldable pub wantLoad : PipelineCpu → Bool
-wantLoad s = awake s && (((retire s) .«ex_mem») .valid && loads ((retire s) .«ex_mem»))
+-- EX/MEM asks for a load
+unfoldable pub loadsIn : Stages → Bool
+loadsIn l = (l .«ex_mem») .valid && loads (l .«ex_mem»)
 
--- refusal 11: a latch out of its bounds, or a wait above 15
-unfoldable pub broken : PipelineCpu → Bool
-broken s =
-    badIfId (s .«if_id»)
-    || (badIdEx (s .«id_ex») ||
-    (badExMem (s .«ex_mem») || (badMemWb (s .«mem_wb») || ltb 15 (s .«ex_cycles_left»))))
+unfoldable pub wantLoad : Stages → Bool
+wantLoad l = awake l && loadsIn (retireStages l)
 
--- refusal 12: running, and MEM/WB holds an exception, MTSR or IRET
-unfoldable pub stuck : PipelineCpu → Bool
-stuck s = awake s && isFaulty (s .«mem_wb»)
-
--- refusal 13: a counter at 18,446,744,073,709,551,615
-unfoldable pub isFull : ℕ → Bool
-isFull n = eqb n 18446744073709551615
-
-unfoldable pub brimming : PipelineCpu → Bool
-brimming s =
-    isFull (s .cycles)
-    || (isFull (s .«running_cycles»)
-    || (isFull (s .«instructions_executed») || (isFull (s .«stall_cycles») || isFull (s .«flush_events»))))
-
-unfoldable pub fetchOf : Bool → ℕ × Mode → Fetch
+unfoldable pub fetchOf : Bool → Place → Fetch
 fetchOf false p = NoFetch
-fetchOf true p = From (p .0) (p .1)
+fetchOf true p = From (p .pc) (p .mode)
+
+-- what a tick will want
+unfoldable pub wanted : PipelineCpu → Wanted
+wanted s = record { fetch = fetchOf (wantFetch s) (fetchAt s); request = requestIn (asks (s .stages)) }
+
+-- a refusal's number, 0 for none, or what is wanted
+unfoldable pub askedBy : ℕ → Wanted → Asked
+askedBy k w = cond (ltb 0 k) (NotAsked k) (Wants w)
 
 unfoldable pub ask : PipelineCpu → Asked
-ask s =
-    cond (broken s) (NotAsked 11)
-    (cond (stuck s) (NotAsked 12)
-    (cond (brimming s) (NotAsked 13)
-    (Wants (record { fetch = fetchOf (wantFetch s) (fetchAt s); request = requestIn (asks s) }))))
+ask s = askedBy (codeOf (stateTests (faulty (s .stages)) s)) (wanted s)

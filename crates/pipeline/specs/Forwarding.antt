@@ -1,13 +1,8 @@
--- Forwarding, in order: R0 gives 0, EX/MEM, MEM/WB, the register.
+-- Forwarding out of the stages. rs: the registers.
 use Prim.Native.Nat.{ℕ}
-use lib.Dec.{eqb}
-use mathlib.Core.Bool.{cond}
-use Rattle.isa.specs.Registers.{readReg}
-use Rattle.latch.specs.Forwarding.{fromExMem, fromMemWb}
-use Rattle.pipeline.specs.Names.{PipelineCpu}
+use mathlib.Core.List.{List}
+use Rattle.latch.specs.Forwarding.{forwardFrom}
+use Rattle.pipeline.specs.Names.{Stages}
 
-unfoldable pub forwarded : PipelineCpu → ℕ → ℕ
-forwarded s r =
-    cond (eqb r 0) 0
-    (fromExMem (s .«ex_mem») (s .features) r
-    (fromMemWb (s .«mem_wb») (s .features) r (readReg (s .reg) r)))
+unfoldable pub forwarded : Stages → List ℕ → ℕ → ℕ
+forwarded l rs r = forwardFrom (l .«ex_mem») (l .«mem_wb») (l .features) rs r

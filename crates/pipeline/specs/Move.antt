@@ -1,55 +1,63 @@
 -- The move: what the rest of a tick does once MEM/WB has retired (continue or begin a wait in EX, hold the front
 -- end behind a used load, go on, or redirect).
+use Prim.Native.Nat.{ℕ}
 use lib.Dec.{ltb}
-use mathlib.Core.Bool.{Bool, _&&_, false, true}
+use mathlib.Core.Bool.{Bool, _&&_, cond, false, not, true}
+use mathlib.Core.List.{List}
 use Rattle.isa.specs.Operands.{operandsOf}
 use Rattle.isa.specs.Short.{decodedOf}
 use Rattle.isa.specs.Waits.{waits}
 use Rattle.latch.specs.Decode.{loadUse}
 use Rattle.latch.specs.Latches.{emptyExMem}
 use Rattle.pipeline.specs.Execute.{executed, redirectOf}
-use Rattle.pipeline.specs.Names.{ExMem, IdEx, Move, Next, PipelineCpu, Redirect, To, beginWait, keepWaiting}
-use Rattle.pipeline.specs.Names.{loadUseStall, proceed, redirect}
+use Rattle.pipeline.specs.Names.{ExMem, IdEx, Move, Next, PipelineCpu, Redirect, Stages, To, beginWait}
+use Rattle.pipeline.specs.Names.{keepWaiting, loadUseStall, proceed, redirect}
 
--- the waiter in IF/ID names the destination of the load in ID/EX
-unfoldable pub hazard : PipelineCpu → Bool
-hazard s =
-    (s .«if_id») .valid
-    && loadUse (s .«id_ex») ((operandsOf (decodedOf ((s .«if_id») .raw))) .«src_a»)
-    ((operandsOf (decodedOf ((s .«if_id») .raw))) .«src_b»)
+-- a wait in EX goes on: more than one tick of it is left
+unfoldable pub waitsOn : Stages → Bool
+waitsOn l = l .«ex_armed» && ltb 1 (l .«ex_cycles_left»)
 
-unfoldable pub proceedOr : Redirect → Move
-proceedOr Next = proceed
-proceedOr (To p m) = redirect p m
-
--- no wait is under way: a used load comes first, then a multiply's or divide's wait
-unfoldable pub chooseFree : Bool → Bool → Redirect → Move
-chooseFree true slow g = loadUseStall g
-chooseFree false true g = beginWait
-chooseFree false false g = proceedOr g
-
--- a wait has just ended: no other begins
-unfoldable pub chooseDone : Bool → Redirect → Move
-chooseDone true g = loadUseStall g
-chooseDone false g = proceedOr g
-
--- armed, more than one tick left, hazard, a multiply or divide in ID/EX, redirect
-unfoldable pub choose : Bool → Bool → Bool → Bool → Redirect → Move
-choose true true used slow g = keepWaiting
-choose true false used slow g = chooseDone used g
-choose false more used slow g = chooseFree used slow g
+-- the instruction in IF/ID names the destination of the load in ID/EX
+unfoldable pub hazard : Stages → Bool
+hazard l =
+    (l .«if_id») .valid
+    && loadUse (l .«id_ex») ((operandsOf (decodedOf ((l .«if_id») .raw))) .«src_a»)
+    ((operandsOf (decodedOf ((l .«if_id») .raw))) .«src_b»)
 
 -- a multiply or divide in ID/EX
 unfoldable pub isSlow : IdEx → Bool
 isSlow l = l .valid && ltb 0 (waits (l .decoded))
 
-unfoldable pub move : PipelineCpu → Move
-move s = choose (s .«ex_armed») (ltb 1 (s .«ex_cycles_left»)) (hazard s) (isSlow (s .«id_ex»)) (redirectOf s)
+-- a multiply or divide begins its wait: not where it has just waited, and not before a used load
+unfoldable pub beginsWait : Stages → Bool → Bool
+beginsWait l used = not (l .«ex_armed») && (not used && isSlow (l .«id_ex»))
 
--- the next EX/MEM of a move
-unfoldable pub nextExMem : Move → PipelineCpu → ExMem
-nextExMem keepWaiting s = emptyExMem
-nextExMem beginWait s = emptyExMem
-nextExMem (loadUseStall g) s = executed s
-nextExMem proceed s = executed s
-nextExMem (redirect p m) s = executed s
+unfoldable pub proceedOr : Redirect → Move
+proceedOr Next = proceed
+proceedOr (To p m) = redirect p m
+
+-- a used load comes first, then the redirect
+unfoldable pub moveFrom : Bool → Redirect → Move
+moveFrom used g = cond used (loadUseStall g) (proceedOr g)
+
+-- the move where no wait goes on
+unfoldable pub freeMove : Stages → List ℕ → Move
+freeMove l rs = cond (beginsWait l (hazard l)) beginWait (moveFrom (hazard l) (redirectOf l rs))
+
+unfoldable pub move : Stages → List ℕ → Move
+move l rs = cond (waitsOn l) keepWaiting (freeMove l rs)
+
+abbrev pub moveOf : PipelineCpu → Move
+moveOf s = move (s .stages) (s .reg)
+
+-- a wait in EX
+unfoldable pub isWait : Move → Bool
+isWait keepWaiting = true
+isWait beginWait = true
+isWait (loadUseStall g) = false
+isWait proceed = false
+isWait (redirect q m) = false
+
+-- the next EX/MEM of a move: in a wait nothing leaves EX
+unfoldable pub nextExMem : Move → Stages → List ℕ → ExMem
+nextExMem m l rs = cond (isWait m) emptyExMem (executed l rs)

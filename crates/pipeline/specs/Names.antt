@@ -1,46 +1,26 @@
--- The declared types and their constructors, each under one name: an `s` stands before a Short instruction's.
+-- The declared types and constructors that this crate names, each under the name that the declaring crate gives it.
 pub use Rattle.isa.specs.declared.Mode.{Mode}
-pub use Rattle.isa.specs.declared.Mode.the-variants.{Normal, Short}
-pub use Rattle.isa.specs.declared.Instruction.{Instruction}
-pub use Rattle.isa.specs.declared.Instruction.the-variants.{Nop, Ld, St, Add, Addi, Sub, Slt, Beq, Bne, Jmp, Jal}
-pub use Rattle.isa.specs.declared.Instruction.the-variants.{Jr, Jmps, Jals, Jrs, Jalr, Jalrs, Cpuid, Halt, And, Or}
-pub use Rattle.isa.specs.declared.Instruction.the-variants.{Xor, Sll, Srl, Sla, Sra, Sltu, Mul, Div, Mod, Mulh}
-pub use Rattle.isa.specs.declared.Instruction.the-variants.{Divu, Ldb, Ldh, Stb, Sth, Ldil, Ldih, Unknown, Iret}
-pub use Rattle.isa.specs.declared.Instruction.the-variants.{Syscall, Mfsr, Mtsr}
-pub use Rattle.isa.specs.declared.ShortInstruction.{ShortInstruction}
-pub use Rattle.isa.specs.declared.ShortInstruction.the-variants.{Mov as sMov, Add as sAdd, Addi as sAddi, Ld as sLd}
-pub use Rattle.isa.specs.declared.ShortInstruction.the-variants.{St as sSt, Bz as sBz, Bnz as sBnz, Jr as sJr}
-pub use Rattle.isa.specs.declared.ShortInstruction.the-variants.{Jal as sJal, Ldi as sLdi, Ret as sRet}
-pub use Rattle.isa.specs.declared.ShortInstruction.the-variants.{Unknown as sUnknown}
+pub use Rattle.isa.specs.declared.Mode.the-variants.{Normal}
+pub use Rattle.isa.specs.declared.Instruction.the-variants.{Nop}
 pub use Rattle.isa.specs.declared.RawInstr.{RawInstr}
-pub use Rattle.isa.specs.declared.RawInstr.the-variants.{Normal as RawNormal, Short as RawShort}
+pub use Rattle.isa.specs.declared.RawInstr.the-variants.{Normal as RawNormal}
 pub use Rattle.isa.specs.declared.Decoded.{Decoded}
-pub use Rattle.isa.specs.declared.Decoded.the-variants.{Normal as DecNormal, Short as DecShort}
-pub use Rattle.isa.specs.declared.Dest.{Dest}
-pub use Rattle.isa.specs.declared.Dest.the-variants.{None as NoDest, Reg}
 pub use Rattle.isa.specs.declared.Redirect.{Redirect}
 pub use Rattle.isa.specs.declared.Redirect.the-variants.{Next, To}
-pub use Rattle.isa.specs.declared.NewMode.{NewMode}
-pub use Rattle.isa.specs.declared.NewMode.the-variants.{Keep, To as ToMode}
 pub use Rattle.isa.specs.declared.Request.{Request}
-pub use Rattle.isa.specs.declared.Request.the-variants.{None as NoRequest, Load, Store}
-pub use Rattle.isa.specs.declared.Exception.{Exception}
-pub use Rattle.isa.specs.declared.Exception.the-variants.{None as NoException, PrivilegedInstruction}
-pub use Rattle.isa.specs.declared.Exception.the-variants.{IllegalInstruction, Syscall as SyscallException}
-pub use Rattle.isa.specs.declared.Mtsr.{Mtsr as MtsrWrite}
-pub use Rattle.isa.specs.declared.Mtsr.the-variants.{None as NoMtsr, Write}
+pub use Rattle.isa.specs.declared.Request.the-variants.{None as NoRequest}
 pub use Rattle.isa.specs.declared.Operands.{Operands}
 pub use Rattle.isa.specs.declared.Effect.{Effect}
 pub use Rattle.latch.specs.declared.IfId.{IfId}
 pub use Rattle.latch.specs.declared.IdEx.{IdEx}
 pub use Rattle.latch.specs.declared.ExMem.{ExMem}
-pub use Rattle.latch.specs.declared.MemWb.{MemWb}
 pub use Rattle.pipeline.specs.declared.PipelineCpu.{PipelineCpu}
 pub use Rattle.pipeline.specs.declared.Offer.{Offer}
 pub use Rattle.pipeline.specs.declared.Offer.the-variants.{Nothing, Instr}
 pub use Rattle.pipeline.specs.declared.Answer.{Answer}
 pub use Rattle.pipeline.specs.declared.Answer.the-variants.{None as NoAnswer, Word}
 pub use Rattle.pipeline.specs.declared.Given.{Given}
+pub use Rattle.pipeline.specs.declared.Taken.{Taken}
 pub use Rattle.pipeline.specs.declared.Outcome.{Outcome}
 pub use Rattle.pipeline.specs.declared.Outcome.the-variants.{Accepted, Refused}
 pub use Rattle.pipeline.specs.declared.Ticked.{Ticked}
@@ -54,6 +34,7 @@ pub use Rattle.pipeline.specs.declared.Move.the-variants.{KeepWaiting as
 pub use Rattle.pipeline.specs.declared.Move.the-variants.{LoadUseStall as loadUseStall, Proceed as proceed}
 pub use Rattle.pipeline.specs.declared.Move.the-variants.{Redirect as redirect}
 pub use Rattle.pipeline.specs.declared.Stages.{Stages}
+pub use Rattle.pipeline.specs.declared.Counters.{Counters}
 pub use Rattle.pipeline.specs.declared.Place.{Place}
 pub use Rattle.pipeline.specs.declared.Front.{Front}
 pub use Rattle.pipeline.specs.declared.Plan.{Plan}
@@ -70,8 +51,3 @@ pub use Rattle.pipeline.specs.declared.MulDiv.{MulDiv}
 pub use Rattle.pipeline.specs.declared.MulDiv.the-variants.{Refused as NotMulDiv, None as NoLatency, Latency}
 pub use Rattle.pipeline.specs.declared.Hazard.{Hazard}
 pub use Rattle.pipeline.specs.declared.Hazard.the-variants.{Refused as NoHazardTest, Waits}
-pub use Rattle.sheet.specs.declared.End.{End}
-pub use Rattle.sheet.specs.declared.End.the-variants.{Halted, Spent, Refused as EndRefused, Loads}
-pub use Rattle.sheet.specs.declared.Turn.{Turn}
-pub use Rattle.sheet.specs.declared.Turn.the-variants.{Ends, Ticks}
-pub use Rattle.pipeline.specs.declared.Turned.{Turned}

@@ -3,31 +3,35 @@ use Prim.Native.Nat.{ℕ}
 use lib.Dec.{ltb}
 use mathlib.Core.Bool.{_||_, cond}
 use Rattle.isa.specs.Operands.{operandsOf}
+use Rattle.isa.specs.Refusals.{decodedCode}
 use Rattle.isa.specs.Short.{decodedOf}
-use Rattle.latch.specs.Bounds.{badDecoded, badIdEx, badIfId}
+use Rattle.latch.specs.Bounds.{badIdEx, badIfId}
 use Rattle.latch.specs.Decode.{decodeId, loadUse}
 use Rattle.latch.specs.Execute.{exMemOf}
-use Rattle.pipeline.specs.Ask.{brimming, broken, stuck}
 use Rattle.pipeline.specs.Execute.{effectFor}
 use Rattle.pipeline.specs.Forwarding.{forwarded}
-use Rattle.pipeline.specs.Names.{Decoded, DecodedId, DecodedTo, Done, Executed, Forwarded, ForwardedWord}
-use Rattle.pipeline.specs.Names.{Hazard, IdEx, IfId, Latency, MulDiv, NoHazardTest, NoLatency, NoSources}
-use Rattle.pipeline.specs.Names.{NotDecoded, NotExecuted, NotForwarded, NotMulDiv, PipelineCpu, Sources}
-use Rattle.pipeline.specs.Names.{Ticked, Two, Waits}
+use Rattle.pipeline.specs.Names.{Decoded, DecodedId, DecodedTo, Done, Executed, Forwarded, ForwardedWord, Hazard}
+use Rattle.pipeline.specs.Names.{IdEx, IfId, Latency, MulDiv, NoHazardTest, NoLatency, NoSources, NotDecoded}
+use Rattle.pipeline.specs.Names.{NotExecuted, NotForwarded, NotMulDiv, PipelineCpu, Sources, Ticked, Two, Waits}
+use Rattle.pipeline.specs.Refusals.{faulty, outOfBounds, stateTests}
 use Rattle.pipeline.specs.Retire.{retire}
-use Rattle.pipeline.specs.Tick.{handedBack, pass, test, verdict}
+use Rattle.pipeline.specs.Tick.{handedBack, verdict}
 
 unfoldable pub forwardedPart : PipelineCpu → ℕ → Forwarded
-forwardedPart s r = cond (broken s || ltb 31 r) (NotForwarded 11) (ForwardedWord (forwarded s r))
+forwardedPart s r =
+    cond (outOfBounds (s .stages) || ltb 31 r) (NotForwarded 11) (ForwardedWord (forwarded (s .stages) (s .reg) r))
 
 -- execute_ex reads neither whether the latch is valid nor what was predicted
 unfoldable pub executePart : PipelineCpu → IdEx → Executed
 executePart s l =
-    cond (broken s || badIdEx l) (NotExecuted 11)
-    (Done (record { «ex_mem» = exMemOf l (effectFor s l); redirect = (effectFor s l) .redirect }))
+    cond (outOfBounds (s .stages) || badIdEx l) (NotExecuted 11)
+    (Done (record {
+      «ex_mem» = exMemOf l (effectFor (s .stages) (s .reg) l);
+      redirect = (effectFor (s .stages) (s .reg) l) .redirect;
+    }))
 
 unfoldable pub decodePart : PipelineCpu → IfId → DecodedId
-decodePart s l = cond (broken s || badIfId l) (NotDecoded 11) (DecodedTo (decodeId l (s .reg)))
+decodePart s l = cond (outOfBounds (s .stages) || badIfId l) (NotDecoded 11) (DecodedTo (decodeId l (s .reg)))
 
 unfoldable pub sourcesPart : IfId → Sources
 sourcesPart l =
@@ -39,7 +43,7 @@ unfoldable pub latencyFrom : ℕ → MulDiv
 latencyFrom n = cond (ltb 0 n) (Latency n) NoLatency
 
 unfoldable pub mulDivPart : Decoded → MulDiv
-mulDivPart d = cond (badDecoded d) (NotMulDiv 11) (latencyFrom ((operandsOf d) .latency))
+mulDivPart d = cond (ltb 0 (decodedCode d)) (NotMulDiv 11) (latencyFrom ((operandsOf d) .latency))
 
 unfoldable pub hazardPart : IdEx → ℕ → ℕ → Hazard
 hazardPart l a b =
@@ -47,5 +51,4 @@ hazardPart l a b =
 
 -- retirement gives 12 and 13 as the tick does
 unfoldable pub retirePart : PipelineCpu → Ticked
-retirePart s =
-    handedBack (verdict (test (broken s) 11 (test (stuck s) 12 (test (brimming s) 13 pass))) (retire s)) s
+retirePart s = handedBack (verdict (stateTests (faulty (s .stages)) s) (retire s)) s

@@ -10,22 +10,24 @@ use Rattle.pipeline.specs.Names.{Mode, PipelineCpu}
 unfoldable pub fresh : List ℕ → ℕ → Mode → Bool → ℕ → PipelineCpu
 fresh regs pc mode user features = record {
   reg = set regs 0 0;
-  «fetch_pc» = pc;
-  «fetch_mode» = mode;
-  «retire_pc» = pc;
-  «retire_mode» = mode;
-  running = true;
-  user = user;
-  features = features;
-  «if_id» = emptyIfId;
-  «id_ex» = emptyIdEx;
-  «ex_mem» = emptyExMem;
-  «mem_wb» = emptyMemWb;
-  «ex_cycles_left» = 0;
-  «ex_armed» = false;
-  cycles = 0;
-  «running_cycles» = 0;
-  «instructions_executed» = 0;
-  «stall_cycles» = 0;
-  «flush_events» = 0;
+  stages = record {
+    «fetch_at» = record { pc = pc; mode = mode };
+    «retire_at» = record { pc = pc; mode = mode };
+    running = true;
+    user = user;
+    features = features;
+    «if_id» = emptyIfId;
+    «id_ex» = emptyIdEx;
+    «ex_mem» = emptyExMem;
+    «mem_wb» = emptyMemWb;
+    «ex_cycles_left» = 0;
+    «ex_armed» = false;
+  };
+  counts = record {
+    cycles = 0;
+    «running_cycles» = 0;
+    «instructions_executed» = 0;
+    «stall_cycles» = 0;
+    «flush_events» = 0;
+  };
 }

@@ -1,31 +1,23 @@
 -- The tick: refusals 11, 12, 13, 1, 2, 3, 4 in this order, or the next state.
 use Prim.Native.Nat.{ℕ}
+use lib.Dec.{ltb}
 use mathlib.Core.Bool.{Bool, cond, false, not, true}
-use Rattle.isa.specs.Operands.{okOperands, operandsN}
-use Rattle.pipeline.specs.Advance.{Taken, next}
-use Rattle.pipeline.specs.Ask.{brimming, broken, fetchAt, stuck, wantFetch, wantLoad}
-use Rattle.pipeline.specs.Names.{Accepted, Answer, Given, Instr, Mode, NoAnswer, Nop, Normal, Nothing, Offer}
-use Rattle.pipeline.specs.Names.{PipelineCpu, RawInstr, RawNormal, RawShort, Refused, Short, Ticked, Word}
+use Rattle.isa.specs.Refusals.{isOf, rawCode}
+use Rattle.pipeline.specs.Advance.{next}
+use Rattle.pipeline.specs.Ask.{fetchAt, wantFetch, wantLoad}
+use Rattle.pipeline.specs.Names.{Accepted, Answer, Given, Instr, Mode, NoAnswer, Nop, Nothing, Offer, PipelineCpu}
+use Rattle.pipeline.specs.Names.{RawInstr, RawNormal, Refused, Taken, Ticked, Word}
+use Rattle.pipeline.specs.Refusals.{Tests, andThen, faulty, pass, stateTests, test}
 
--- 1: a Normal register above 31
-unfoldable pub badOffer : Offer → Bool
-badOffer Nothing = false
-badOffer (Instr (RawNormal i)) = not (okOperands (operandsN i))
-badOffer (Instr (RawShort h)) = false
-
--- 2: MFSR
-unfoldable pub mfsrOffer : Offer → Bool
-mfsrOffer Nothing = false
-mfsrOffer (Instr (RawNormal i)) = (operandsN i) .«is_mfsr»
-mfsrOffer (Instr (RawShort h)) = false
+-- 1 or 2 of what is offered, 0 for neither
+unfoldable pub offerCode : Offer → ℕ
+offerCode Nothing = 0
+offerCode (Instr i) = rawCode i
 
 -- 3 where it fails: an offer of the mode that is wanted, or Nothing where no fetch is
 unfoldable pub fitsOffer : Bool → Mode → Offer → Bool
 fitsOffer true m Nothing = false
-fitsOffer true Normal (Instr (RawNormal i)) = true
-fitsOffer true Normal (Instr (RawShort h)) = false
-fitsOffer true Short (Instr (RawNormal i)) = false
-fitsOffer true Short (Instr (RawShort h)) = true
+fitsOffer true m (Instr i) = isOf m i
 fitsOffer false m Nothing = true
 fitsOffer false m (Instr i) = false
 
@@ -50,30 +42,27 @@ wordIn (Word v) = v
 unfoldable pub taken : Given → Taken
 taken t = record { answer = wordIn (t .answer); raw = rawOf (t .offer) }
 
--- the first test that holds gives its number
-pub data Tests : Type 0 where
-  pass : Tests
-  test : Bool → ℕ → Tests → Tests
-
 pub data Result : Type 0 where
   refused : ℕ → Result
   moved : PipelineCpu → Result
 
+-- the number of the first test that holds, or the state
 unfoldable pub verdict : Tests → PipelineCpu → Result
 verdict pass s = moved s
 verdict (test b n c) s = cond b (refused n) (verdict c s)
 
--- what the tick is given
-unfoldable pub givenTests : PipelineCpu → Given → Tests
-givenTests s t =
-    test (badOffer (t .offer)) 1
-    (test (mfsrOffer (t .offer)) 2
-    (test (not (fitsOffer (wantFetch s) ((fetchAt s) .1) (t .offer))) 3
-    (test (not (same (wantLoad s) (isAnswer (t .answer)))) 4
-    pass)))
+-- what the tick is given, where a fetch in mode m or a load is wanted
+unfoldable pub givenTests : Bool → Mode → Bool → Given → Tests
+givenTests fetch m load t =
+    test (ltb 0 (offerCode (t .offer))) (offerCode (t .offer))
+    (test (not (fitsOffer fetch m (t .offer))) 3
+    (test (not (same load (isAnswer (t .answer)))) 4
+    pass))
 
 unfoldable pub tests : PipelineCpu → Given → Tests
-tests s t = test (broken s) 11 (test (stuck s) 12 (test (brimming s) 13 (givenTests s t)))
+tests s t =
+    andThen (stateTests (faulty (s .stages)) s)
+    (givenTests (wantFetch s) ((fetchAt s) .mode) (wantLoad (s .stages)) t)
 
 unfoldable pub tick : PipelineCpu → Given → Result
 tick s t = verdict (tests s t) (next s (taken t))

@@ -1,8 +1,9 @@
 // Asking beforehand.
-ghost use mathlib.Core.Bool.{true};
+ghost use mathlib.Core.Bool.{false, true};
 ghost use mathlib.Core.Path.{_≡_};
-ghost use Rattle.pipeline.specs.Ask.{ask, fetchOf};
-ghost use Rattle.pipeline.specs.Codes.{Counts, wanted};
+ghost use Rattle.pipeline.specs.Advance.{awake};
+ghost use Rattle.pipeline.specs.Ask.{ask, fetchOf, wanted};
+ghost use Rattle.pipeline.specs.Counting.{counterFull};
 use crate::Asked;
 use crate::Fetch;
 use crate::PipelineCpu;
@@ -11,7 +12,7 @@ use crate::Wanted;
 use isa::Request;
 
 fn fetch_of(fetches: bool, place: Place) -> Fetch
-    ensures { λ r. ⌜ r ≡ fetchOf fetches (place .pc, place .mode) ⌝ }
+    ensures { λ r. ⌜ r ≡ fetchOf fetches place ⌝ }
 {
     if fetches {
         let mode = place.mode;
@@ -21,17 +22,24 @@ fn fetch_of(fetches: bool, place: Place) -> Fetch
 }
 
 impl PipelineCpu {
-    // What a tick of a running machine will want.
+    // What a tick that moves will want.
     fn wants(self) -> Wanted
-        requires { ⌜ Counts self ⌝ }
-        requires { ⌜ self .running ≡ true ⌝ }
+        requires { ⌜ awake (self .stages) ≡ true ⌝ }
+        requires { ⌜ counterFull (self .counts) ≡ false ⌝ }
         ensures { λ r. ⌜ r ≡ wanted self ⌝ }
     {
         let mut reg = self.reg;
-        let s = self.stages().retire(&mut reg);
+        let l = self.stages;
+        let s = l.retire(&mut reg);
+        let x = s.ex_mem;
+        if s.waits_on() {
+            return Wanted {
+                fetch: Fetch::None,
+                request: x.request(),
+            };
+        }
         let plan = s.plan(&reg);
         let place = plan.place;
-        let x = s.ex_mem;
         Wanted {
             fetch: fetch_of(s.fetches(plan), place),
             request: x.request(),
@@ -42,11 +50,12 @@ impl PipelineCpu {
     pub fn ask(self) -> Asked
         ensures { λ r. ⌜ r ≡ ask self ⌝ }
     {
-        let k = self.standing();
+        let l = self.stages;
+        let k = self.state_code(l.is_faulty());
         if 0 < k {
             return Asked::Refused(k);
         }
-        if self.running {
+        if l.is_awake() {
             return Asked::Wants(self.wants());
         }
         Asked::Wants(Wanted {

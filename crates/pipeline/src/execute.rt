@@ -1,15 +1,16 @@
 // What the latches make of a tick: the front of IF/ID, the next EX/MEM, the redirect, the move.
 ghost use mathlib.Core.Path.{_≡_};
+ghost use Rattle.isa.specs.Waits.{predictBy};
 ghost use Rattle.pipeline.specs.Execute.{executedBy, redirectBy};
-ghost use Rattle.pipeline.specs.Move.{isSlow, proceedOr};
-ghost use Rattle.pipeline.specs.Stages.{predictIf, noFront, frontOf, idExFrom, placeFrom, moveFrom};
+ghost use Rattle.pipeline.specs.Fetch.{fetchFrom};
+ghost use Rattle.pipeline.specs.Move.{isSlow, moveFrom};
+ghost use Rattle.pipeline.specs.Names.{Next};
+ghost use Rattle.pipeline.specs.Plans.{frontOf, idExFrom};
+ghost use mathlib.Core.Bool.{cond};
 use crate::Front;
 use crate::Move;
 use crate::Place;
-use isa::Decoded;
-use isa::Dest;
 use isa::Effect;
-use isa::Instruction;
 use isa::Mode;
 use isa::Operands;
 use isa::Redirect;
@@ -49,7 +50,7 @@ pub(crate) fn is_slow(d: IdEx) -> bool
 }
 
 fn predict_if(valid: bool, o: Operands, pc: u32, mode: Mode) -> Redirect
-    ensures { λ r. ⌜ r ≡ predictIf valid o pc mode ⌝ }
+    ensures { λ r. ⌜ r ≡ cond valid (predictBy o pc mode) Next ⌝ }
 {
     if valid {
         return o.predict(pc, mode);
@@ -69,28 +70,6 @@ pub(crate) fn front_of(f: IfId) -> Front
         decoded,
         operands,
         predicted: predict_if(f.valid, operands, f.pc, mode),
-    }
-}
-
-// The front that stands where a wait goes on: IF/ID is not decoded then.
-pub(crate) fn no_front() -> Front
-    ensures { λ r. ⌜ r ≡ noFront ⌝ }
-{
-    Front {
-        decoded: Decoded::Normal(Instruction::Nop),
-        operands: Operands {
-            src_a: 0,
-            src_b: 0,
-            n_srcs: 0,
-            dest: Dest::None,
-            is_load: false,
-            is_store: false,
-            latency: 0,
-            is_branch: false,
-            offset: 0,
-            is_mfsr: false,
-        },
-        predicted: Redirect::Next,
     }
 }
 
@@ -122,17 +101,20 @@ pub(crate) fn move_from(used: bool, way: Redirect) -> Move
 }
 
 // The place that a move fetches from: predicted only where the tick does not redirect.
-pub(crate) fn place_from(step: Move, predicted: Redirect, pc: u32, mode: Mode) -> Place
-    ensures { λ r. ⌜ r ≡ placeFrom step predicted pc mode ⌝ }
+pub(crate) fn place_from(step: Move, predicted: Redirect, at: Place) -> Place
+    ensures { λ r. ⌜ r ≡ fetchFrom step predicted at ⌝ }
 {
     match step {
-        Move::KeepWaiting => Place { pc, mode },
-        Move::BeginWait => Place { pc, mode },
-        Move::LoadUseStall(_) => Place { pc, mode },
-        Move::Proceed => Place {
-            pc: predicted.target_or(pc),
-            mode: predicted.mode_or(mode),
-        },
-        Move::Redirect(_, _) => Place { pc, mode },
+        Move::KeepWaiting => at,
+        Move::BeginWait => at,
+        Move::LoadUseStall(_) => at,
+        Move::Proceed => {
+            let mode = at.mode;
+            Place {
+                pc: predicted.target_or(at.pc),
+                mode: predicted.mode_or(mode),
+            }
+        }
+        Move::Redirect(_, _) => at,
     }
 }

@@ -14,11 +14,22 @@
 // - PipelineCpu::execute_ex: an empty EX/MEM for an invalid latch; no redirect where the branch was rightly predicted.
 // - PipelineCpu::decode_id: an invalid latch made of an invalid one; a branch with negative offset predicted taken.
 // - PipelineCpu::retire: MEM/WB emptied; 12 for a machine that does not run (refusal_12_when_not_running).
-// - PipelineCpu::stages, Stages::with: the fetch place for the retire place; registers with R0 cleared.
-// - PipelineCpu::is_broken: an invalid latch not tested; a wait of 15 out of bounds.
-// - Stages::turn: loads before 12 (sheet: loads_before_12); a load's answer taken by a tick that does not load.
+// - Stages::out_of_bounds: an invalid latch not tested; a wait of 15 out of bounds.
+// - Stages::is_faulty: the exception of an invalid latch; 12 for a machine that does not run
+//   (refusal_12_when_not_running).
+// - Stages::retire: MEM/WB emptied; EX/MEM kept at a HALT (halt_leaves_ex_mem).
+// - Stages::waits_on: true with one tick left; true where no wait is armed.
+// - Stages::wait: EX/MEM kept; the ticks left not counted down.
+// - Stages::plan: the wait of a multiply begun again although it has just ended; a prediction followed although the
+//   tick redirects (predicted_although_redirecting).
+// - Stages::fetches: no fetch in a redirecting tick (redirecting_tick_fetches_nothing); a fetch after a HALT.
+// - Stages::wants_load: the load behind a HALT; the load of an invalid EX/MEM.
+// - Stages::advance: IF/ID kept by a redirect (flush_keeps_if_id); the front end moved on behind a used load.
+// - Counters::is_full: true one below the top; the flushes not tested.
+// - Counters::count: a flush counted as a stall; a full counter that starts again at 0.
 mod advance;
 mod ask;
+mod counting;
 mod execute;
 pub mod parts;
 mod planning;
@@ -26,7 +37,6 @@ mod refusals;
 mod retire;
 mod start;
 mod tick;
-mod turning;
 
 use isa::Decoded;
 use isa::Mode;
@@ -38,15 +48,18 @@ use latch::ExMem;
 use latch::IdEx;
 use latch::IfId;
 use latch::MemWb;
-use sheet::Turn;
 
-// The state: registers, fetch and retire place, latches, the wait in EX, and the five counters.
+// The state: registers, stages, counters.
 pub struct PipelineCpu {
     pub reg: [u32; 32],
-    pub fetch_pc: u32,
-    pub fetch_mode: Mode,
-    pub retire_pc: u32,
-    pub retire_mode: Mode,
+    pub stages: Stages,
+    pub counts: Counters,
+}
+
+// Fetch and retire place, latches, and the wait in EX.
+pub struct Stages {
+    pub fetch_at: Place,
+    pub retire_at: Place,
     pub running: bool,
     pub user: bool,
     pub features: u32,
@@ -56,6 +69,10 @@ pub struct PipelineCpu {
     pub mem_wb: MemWb,
     pub ex_cycles_left: u32,
     pub ex_armed: bool,
+}
+
+// What is counted: ticks, running ticks, instructions retired, stalls, flushes.
+pub struct Counters {
     pub cycles: u64,
     pub running_cycles: u64,
     pub instructions_executed: u64,
@@ -79,6 +96,12 @@ pub enum Answer {
 pub struct Given {
     pub offer: Offer,
     pub answer: Answer,
+}
+
+// What a tick takes in: the load's answer and the instruction offered.
+pub struct Taken {
+    pub answer: u32,
+    pub raw: RawInstr,
 }
 
 // How a tick ended.
@@ -111,26 +134,6 @@ pub enum Asked {
     Wants(Wanted),
 }
 
-// The state but for the registers, which are lent beside it while ticks are done.
-pub struct Stages {
-    pub fetch_at: Place,
-    pub retire_at: Place,
-    pub running: bool,
-    pub user: bool,
-    pub features: u32,
-    pub if_id: IfId,
-    pub id_ex: IdEx,
-    pub ex_mem: ExMem,
-    pub mem_wb: MemWb,
-    pub ex_cycles_left: u32,
-    pub ex_armed: bool,
-    pub cycles: u64,
-    pub running_cycles: u64,
-    pub instructions_executed: u64,
-    pub stall_cycles: u64,
-    pub flush_events: u64,
-}
-
 // What the rest of a tick does once MEM/WB has retired: continue or begin a wait in EX, hold the front
 // end behind a used load, go on, or redirect.
 pub enum Move {
@@ -160,13 +163,6 @@ pub struct Plan {
     pub ex_mem: ExMem,
     pub front: Front,
     pub place: Place,
-}
-
-// A turn of a run: what it does, whether its tick loads, and the stages after it.
-pub struct Turned {
-    pub turn: Turn,
-    pub loads: bool,
-    pub stages: Stages,
 }
 
 // The answer of `forwarded` by itself.

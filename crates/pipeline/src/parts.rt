@@ -1,7 +1,7 @@
 // The parts of the tick called by themselves.
 ghost use mathlib.Core.Path.{_≡_};
-ghost use Rattle.pipeline.specs.Parts.{forwardedPart, executePart, decodePart, sourcesPart, latencyFrom};
-ghost use Rattle.pipeline.specs.Parts.{mulDivPart, hazardPart, retirePart};
+ghost use Rattle.pipeline.specs.Parts.{decodePart, executePart, forwardedPart, hazardPart, latencyFrom};
+ghost use Rattle.pipeline.specs.Parts.{mulDivPart, retirePart, sourcesPart};
 use crate::DecodedId;
 use crate::Executed;
 use crate::Execution;
@@ -15,9 +15,8 @@ use crate::Ticked;
 use isa::Decoded;
 use latch::IdEx;
 use latch::IfId;
-use latch::bounds::bad_decoded;
 use latch::execute::effect_from;
-use latch::forwarding::forwarded;
+use latch::forwarding::operand;
 
 // The two sources of what IF/ID holds.
 pub fn id_sources(f: IfId) -> Sources
@@ -45,7 +44,7 @@ fn latency_from(n: u8) -> MulDiv
 pub fn is_mul_div(d: Decoded) -> MulDiv
     ensures { λ r. ⌜ r ≡ mulDivPart d ⌝ }
 {
-    if bad_decoded(d) {
+    if 0 < d.code() {
         return MulDiv::Refused(11);
     }
     let o = d.operands();
@@ -59,7 +58,7 @@ pub fn load_use_hazard(d: IdEx, a: u8, b: u8) -> Hazard
     if d.out_of_bounds() | ((31 < a) | (31 < b)) {
         return Hazard::Refused(11);
     }
-    Hazard::Waits(d.load_use_hazard(a, b))
+    Hazard::Waits(d.load_is_used(a, b))
 }
 
 impl PipelineCpu {
@@ -67,24 +66,26 @@ impl PipelineCpu {
     pub fn forwarded(self, r: u8) -> Forwarded
         ensures { λ v. ⌜ v ≡ forwardedPart self r ⌝ }
     {
-        if self.is_broken() | (31 < r) {
+        let l = self.stages;
+        if l.out_of_bounds() | (31 < r) {
             return Forwarded::Refused(11);
         }
-        let x = self.ex_mem;
-        let m = self.mem_wb;
-        Forwarded::Word(forwarded(x, m, self.features, &self.reg, r))
+        let x = l.ex_mem;
+        let m = l.mem_wb;
+        Forwarded::Word(operand(x, m, l.features, &self.reg, r))
     }
 
     // The next EX/MEM of a latch and the way that its instruction goes.
     pub fn execute_ex(self, d: IdEx) -> Executed
         ensures { λ r. ⌜ r ≡ executePart self d ⌝ }
     {
-        if self.is_broken() | d.out_of_bounds() {
+        let l = self.stages;
+        if l.out_of_bounds() | d.out_of_bounds() {
             return Executed::Refused(11);
         }
-        let x = self.ex_mem;
-        let m = self.mem_wb;
-        let e = effect_from(self.user, x, m, self.features, &self.reg, d);
+        let x = l.ex_mem;
+        let m = l.mem_wb;
+        let e = effect_from(l.user, x, m, l.features, &self.reg, d);
         let redirect = e.redirect;
         Executed::Done(Execution {
             ex_mem: d.ex_mem(e),
@@ -96,24 +97,33 @@ impl PipelineCpu {
     pub fn decode_id(self, f: IfId) -> DecodedId
         ensures { λ r. ⌜ r ≡ decodePart self f ⌝ }
     {
-        if self.is_broken() | f.out_of_bounds() {
+        let l = self.stages;
+        if l.out_of_bounds() | f.out_of_bounds() {
             return DecodedId::Refused(11);
         }
-        DecodedId::Latch(f.decode_id(&self.reg))
+        DecodedId::Latch(f.decode(&self.reg))
     }
 
     // The state after the retirement of MEM/WB; a refused one is handed back as it was.
     pub fn retire(self) -> Ticked
         ensures { λ r. ⌜ r ≡ retirePart self ⌝ }
     {
-        let k = self.standing();
+        let l = self.stages;
+        let k = self.state_code(l.is_faulty());
         if 0 < k {
             return self.refused(k);
         }
+        let m = l.mem_wb;
+        let c = self.counts;
         let mut reg = self.reg;
-        let s = self.stages().retire(&mut reg);
+        let stages = l.retire(&mut reg);
+        let counts = c.retire(m.valid);
         Ticked {
-            state: s.with(reg),
+            state: PipelineCpu {
+                reg,
+                stages,
+                counts,
+            },
             outcome: Outcome::Accepted,
         }
     }

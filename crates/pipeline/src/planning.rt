@@ -1,7 +1,8 @@
-// The plan of a tick, once MEM/WB has retired.
-ghost use mathlib.Core.Bool.{false};
+// The plan of a tick in which no wait goes on, once MEM/WB has retired.
 ghost use mathlib.Core.Path.{_≡_};
-ghost use Rattle.pipeline.specs.Stages.{view, waitsOn, usesLoad, beginsWait, heldPlan, movedPlan, planOf};
+ghost use Rattle.pipeline.specs.Inner.{heldPlan, movedPlan, usesLoad};
+ghost use Rattle.pipeline.specs.Move.{beginsWait, waitsOn};
+ghost use Rattle.pipeline.specs.Plans.{planOf};
 use crate::Front;
 use crate::Move;
 use crate::Plan;
@@ -10,7 +11,6 @@ use crate::execute::executed_by;
 use crate::execute::front_of;
 use crate::execute::is_slow;
 use crate::execute::move_from;
-use crate::execute::no_front;
 use crate::execute::place_from;
 use crate::execute::redirect_by;
 use isa::Operands;
@@ -19,7 +19,7 @@ use latch::execute::effect_from;
 
 impl Stages {
     // A wait in EX with more than one tick left.
-    pub(crate) fn waits_on(self) -> bool
+    pub fn waits_on(self) -> bool
         ensures { λ r. ⌜ r ≡ waitsOn self ⌝ }
     {
         self.ex_armed & (1 < self.ex_cycles_left)
@@ -31,7 +31,7 @@ impl Stages {
     {
         let f = self.if_id;
         let d = self.id_ex;
-        f.valid & d.load_use_hazard(o.src_a, o.src_b)
+        f.valid & d.load_is_used(o.src_a, o.src_b)
     }
 
     // A multiply or divide begins its wait.
@@ -42,13 +42,13 @@ impl Stages {
         !self.ex_armed & (!used & is_slow(d))
     }
 
-    // A wait: nothing leaves EX and nothing is fetched.
-    fn held_plan(self, step: Move, front: Front) -> Plan
-        ensures { λ r. ⌜ r ≡ heldPlan self step front ⌝ }
+    // A wait begins: nothing leaves EX and nothing is fetched.
+    fn held_plan(self, front: Front) -> Plan
+        ensures { λ r. ⌜ r ≡ heldPlan self front ⌝ }
     {
         let place = self.fetch_at;
         Plan {
-            step,
+            step: Move::BeginWait,
             ex_mem: ExMem::invalid(),
             front,
             place,
@@ -57,13 +57,12 @@ impl Stages {
 
     // No wait: ID/EX executes.
     fn moved_plan(self, used: bool, front: Front, reg: &[u32; 32]) -> Plan
-        ensures { λ r. ⌜ r ≡ movedPlan (view self (now (reg .entry))) used front ⌝ }
+        ensures { λ r. ⌜ r ≡ movedPlan self (now (reg .entry)) used front ⌝ }
     {
         let x = self.ex_mem;
         let w = self.mem_wb;
         let d = self.id_ex;
         let at = self.fetch_at;
-        let mode = at.mode;
         let predicted = front.predicted;
         let e = effect_from(self.user, x, w, self.features, reg, d);
         let step = move_from(used, redirect_by(d, e));
@@ -72,30 +71,19 @@ impl Stages {
             step,
             ex_mem,
             front,
-            place: place_from(step, predicted, at.pc, mode),
+            place: place_from(step, predicted, at),
         }
     }
 
-    // The plan where no wait goes on.
-    pub(crate) fn free_plan(self, reg: &[u32; 32]) -> Plan
-        requires { ⌜ waitsOn self ≡ false ⌝ }
-        ensures { λ r. ⌜ r ≡ planOf (view self (now (reg .entry))) ⌝ }
+    // The move, the next EX/MEM, the front and the place to fetch from.
+    pub fn plan(self, reg: &[u32; 32]) -> Plan
+        ensures { λ r. ⌜ r ≡ planOf self (now (reg .entry)) ⌝ }
     {
         let front = front_of(self.if_id);
         let used = self.uses_load(front.operands);
         if self.begins_wait(used) {
-            return self.held_plan(Move::BeginWait, front);
+            return self.held_plan(front);
         }
         self.moved_plan(used, front, reg)
-    }
-
-    // The move, the next EX/MEM, the front and the place to fetch from.
-    pub(crate) fn plan(self, reg: &[u32; 32]) -> Plan
-        ensures { λ r. ⌜ r ≡ planOf (view self (now (reg .entry))) ⌝ }
-    {
-        if self.waits_on() {
-            return self.held_plan(Move::KeepWaiting, no_front());
-        }
-        self.free_plan(reg)
     }
 }

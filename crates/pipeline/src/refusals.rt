@@ -1,49 +1,19 @@
 // Refusals, as numbers: 0 where none applies.
 ghost use mathlib.Core.Path.{_≡_};
-ghost use Rattle.pipeline.specs.Ask.{broken};
-ghost use Rattle.pipeline.specs.Codes.{isShort, isOf, offerCode, answerCode, givenCode, Stands, Tells};
-ghost use Rattle.pipeline.specs.Turning.{stageStuck, TellsFull};
-ghost use Rattle.pipeline.specs.Names.{Instr};
-ghost use Rattle.pipeline.specs.Tick.{fitsOffer, isAnswer, same};
+ghost use Rattle.pipeline.specs.Advance.{awake};
+ghost use Rattle.pipeline.specs.Refusals.{codeOf, faulty, outOfBounds, stateTests};
+ghost use Rattle.pipeline.specs.Tick.{fitsOffer, givenTests, isAnswer, offerCode, same};
 use crate::Answer;
 use crate::Given;
 use crate::Offer;
 use crate::PipelineCpu;
 use crate::Stages;
-use isa::Decoded;
 use isa::Mode;
-use isa::RawInstr;
-
-// A counter at its top.
-fn is_full(n: u64) -> bool
-    ensures { λ r. ⌜ Tells n r ⌝ }
-{
-    n == 18446744073709551615
-}
 
 impl Stages {
-    // Running, and MEM/WB holds an exception, MTSR or IRET.
-    pub(crate) fn is_stuck(self) -> bool
-        ensures { λ r. ⌜ r ≡ stageStuck self ⌝ }
-    {
-        let m = self.mem_wb;
-        self.running & m.is_faulty()
-    }
-
-    // A counter at its top.
-    pub(crate) fn is_brimming(self) -> bool
-        ensures { λ r. ⌜ TellsFull self r ⌝ }
-    {
-        let late = is_full(self.stall_cycles) | is_full(self.flush_events);
-        is_full(self.cycles)
-            | (is_full(self.running_cycles) | (is_full(self.instructions_executed) | late))
-    }
-}
-
-impl PipelineCpu {
     // A latch out of its bounds, or a wait above 15.
-    pub fn is_broken(self) -> bool
-        ensures { λ r. ⌜ r ≡ broken self ⌝ }
+    pub fn out_of_bounds(self) -> bool
+        ensures { λ r. ⌜ r ≡ outOfBounds self ⌝ }
     {
         let f = self.if_id;
         let d = self.id_ex;
@@ -53,68 +23,50 @@ impl PipelineCpu {
         f.out_of_bounds() | (d.out_of_bounds() | late)
     }
 
-    // 11, 12 or 13.
-    pub(crate) fn standing(self) -> u32
-        ensures { λ r. ⌜ Stands self r ⌝ }
+    // Whether a tick moves anything.
+    pub(crate) fn is_awake(self) -> bool
+        ensures { λ r. ⌜ r ≡ awake self ⌝ }
     {
-        if self.is_broken() {
+        self.running
+    }
+
+    // Running, and MEM/WB holds an exception, MTSR or IRET.
+    pub fn is_faulty(self) -> bool
+        ensures { λ r. ⌜ r ≡ faulty self ⌝ }
+    {
+        let m = self.mem_wb;
+        self.is_awake() & m.is_faulty()
+    }
+}
+
+impl PipelineCpu {
+    // 11, 12 or 13; whether 12 applies is told by the caller.
+    pub(crate) fn state_code(self, faulty: bool) -> u32
+        ensures { λ r. ⌜ r ≡ codeOf (stateTests faulty self) ⌝ }
+    {
+        let l = self.stages;
+        let c = self.counts;
+        if l.out_of_bounds() {
             return 11;
         }
-        let l = self.stages();
-        if l.is_stuck() {
+        if faulty {
             return 12;
         }
-        if l.is_brimming() {
+        if c.is_full() {
             return 13;
         }
         0
     }
 }
 
-// 1 or 2: a Normal register above 31, then MFSR.
-fn instr_code(raw: RawInstr) -> u32
-    ensures { λ r. ⌜ r ≡ offerCode (Instr raw) ⌝ }
-{
-    let RawInstr::Normal(i) = raw else {
-        return 0;
-    };
-    let d = Decoded::Normal(i);
-    let o = d.operands();
-    if o.in_bounds() {
-        if o.is_mfsr {
-            return 2;
-        }
-        return 0;
-    }
-    1
-}
-
+// 1 or 2.
 fn offer_code(offer: Offer) -> u32
     ensures { λ r. ⌜ r ≡ offerCode offer ⌝ }
 {
     let Offer::Instr(raw) = offer else {
         return 0;
     };
-    instr_code(raw)
-}
-
-fn is_short(raw: RawInstr) -> bool
-    ensures { λ r. ⌜ r ≡ isShort raw ⌝ }
-{
-    match raw {
-        RawInstr::Normal(_) => false,
-        RawInstr::Short(_) => true,
-    }
-}
-
-// An instruction of a mode.
-fn is_of(mode: Mode, raw: RawInstr) -> bool
-    ensures { λ r. ⌜ r ≡ isOf mode raw ⌝ }
-{
-    match mode {
-        Mode::Normal => !is_short(raw),
-        Mode::Short => is_short(raw),
-    }
+    raw.code()
 }
 
 // An offer of the mode that is wanted, or Nothing where no fetch is.
@@ -124,7 +76,7 @@ fn fits_offer(fetch: bool, mode: Mode, offer: Offer) -> bool
     let Offer::Instr(raw) = offer else {
         return !fetch;
     };
-    fetch & is_of(mode, raw)
+    fetch & raw.is_of(mode)
 }
 
 fn is_answer(answer: Answer) -> bool
@@ -145,20 +97,10 @@ fn same(a: bool, b: bool) -> bool
     !b
 }
 
-// 4: an answer exactly where a load is wanted.
-fn answer_code(load: bool, answer: Answer) -> u32
-    ensures { λ r. ⌜ r ≡ answerCode load answer ⌝ }
-{
-    if same(load, is_answer(answer)) {
-        return 0;
-    }
-    4
-}
-
 impl Given {
     // 1, 2, 3 or 4.
     pub(crate) fn code(self, fetch: bool, mode: Mode, load: bool) -> u32
-        ensures { λ r. ⌜ r ≡ givenCode fetch mode load self ⌝ }
+        ensures { λ r. ⌜ r ≡ codeOf (givenTests fetch mode load self) ⌝ }
     {
         let offer = self.offer;
         let answer = self.answer;
@@ -166,9 +108,12 @@ impl Given {
         if 0 < k {
             return k;
         }
-        if fits_offer(fetch, mode, offer) {
-            return answer_code(load, answer);
+        if !fits_offer(fetch, mode, offer) {
+            return 3;
         }
-        3
+        if !same(load, is_answer(answer)) {
+            return 4;
+        }
+        0
     }
 }

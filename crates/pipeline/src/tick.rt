@@ -1,10 +1,14 @@
 // The tick.
 ghost use mathlib.Core.Bool.{false, true};
 ghost use mathlib.Core.Path.{_≡_};
-ghost use Rattle.pipeline.specs.Advance.{idle};
-ghost use Rattle.pipeline.specs.Codes.{Counts, planFetches, stageLoads, refusedWith, tickedOn};
+ghost use Rattle.pipeline.specs.Advance.{awake};
+ghost use Rattle.pipeline.specs.Ask.{loadsIn, wantLoad};
+ghost use Rattle.pipeline.specs.Counting.{counterFull};
 ghost use Rattle.pipeline.specs.Fetch.{fetches};
-ghost use Rattle.pipeline.specs.Tick.{rawOf, ticked, wordIn};
+ghost use Rattle.pipeline.specs.Inner.{Retired, refusedWith, tickedOn};
+ghost use Rattle.pipeline.specs.Move.{waitsOn};
+ghost use Rattle.pipeline.specs.Plans.{planFetches};
+ghost use Rattle.pipeline.specs.Tick.{rawOf, taken, ticked, wordIn};
 use crate::Answer;
 use crate::Given;
 use crate::Move;
@@ -13,29 +17,24 @@ use crate::Outcome;
 use crate::PipelineCpu;
 use crate::Plan;
 use crate::Stages;
+use crate::Taken;
 use crate::Ticked;
 use isa::Instruction;
 use isa::Mode;
 use isa::RawInstr;
 
 impl Move {
-    // A redirecting tick fetches.
+    // A move that does not hold the front end fetches, a redirect too.
     fn fetches(self) -> bool
         ensures { λ r. ⌜ r ≡ fetches self ⌝ }
     {
-        match self {
-            Move::KeepWaiting => false,
-            Move::BeginWait => false,
-            Move::LoadUseStall(_) => false,
-            Move::Proceed => true,
-            Move::Redirect(_, _) => true,
-        }
+        !self.stalls()
     }
 }
 
 impl Stages {
     // Whether this plan fetches; a machine that has halted does not.
-    pub(crate) fn fetches(self, plan: Plan) -> bool
+    pub fn fetches(self, plan: Plan) -> bool
         ensures { λ r. ⌜ r ≡ planFetches self plan ⌝ }
     {
         let step = plan.step;
@@ -44,10 +43,18 @@ impl Stages {
 
     // Whether EX/MEM asks for a load.
     pub(crate) fn loads(self) -> bool
-        ensures { λ r. ⌜ r ≡ stageLoads self ⌝ }
+        ensures { λ r. ⌜ r ≡ loadsIn self ⌝ }
     {
         let x = self.ex_mem;
         x.valid & x.loads()
+    }
+
+    // Whether a tick will load: a HALT in MEM/WB empties EX/MEM first.
+    pub fn wants_load(self) -> bool
+        ensures { λ r. ⌜ r ≡ wantLoad self ⌝ }
+    {
+        let m = self.mem_wb;
+        self.is_awake() & (!m.halts() & self.loads())
     }
 }
 
@@ -71,6 +78,20 @@ fn word_in(answer: Answer) -> u32
     v
 }
 
+impl Given {
+    // What the tick takes in.
+    fn taken(self) -> Taken
+        ensures { λ r. ⌜ r ≡ taken self ⌝ }
+    {
+        let offer = self.offer;
+        let answer = self.answer;
+        Taken {
+            answer: word_in(answer),
+            raw: raw_of(offer),
+        }
+    }
+}
+
 impl PipelineCpu {
     pub(crate) fn refused(self, n: u32) -> Ticked
         ensures { λ r. ⌜ r ≡ refusedWith n self ⌝ }
@@ -81,66 +102,103 @@ impl PipelineCpu {
         }
     }
 
-    // Not running: only the tick count rises.
-    fn idle(mut self) -> PipelineCpu
-        requires { ⌜ Counts self ⌝ }
-        ensures { λ r. ⌜ r ≡ idle self ⌝ }
-    {
-        self.cycles = self.cycles + 1;
-        self
-    }
-
     // A tick that moves nothing.
-    fn tick_idle(self, t: Given) -> Ticked
-        requires { ⌜ Counts self ⌝ }
-        requires { ⌜ self .running ≡ false ⌝ }
+    fn tick_resting(mut self, t: Given) -> Ticked
+        requires { ⌜ counterFull (self .counts) ≡ false ⌝ }
+        requires { ⌜ awake (self .stages) ≡ false ⌝ }
         ensures { λ r. ⌜ r ≡ tickedOn self t ⌝ }
     {
         let k = t.code(false, Mode::Normal, false);
         if 0 < k {
             return self.refused(k);
         }
+        let c = self.counts;
+        self.counts = c.idle();
         Ticked {
-            state: self.idle(),
+            state: self,
             outcome: Outcome::Accepted,
         }
     }
 
-    // A tick of a running machine: retire, plan, test what is given, advance.
-    fn tick_running(self, t: Given) -> Ticked
-        requires { ⌜ Counts self ⌝ }
-        requires { ⌜ self .running ≡ true ⌝ }
+    // A wait goes on in stages that retirement left.
+    fn tick_waiting(self, s: Stages, reg: [u32; 32], t: Given) -> Ticked
+        requires { ⌜ Retired self s reg ⌝ }
+        requires { ⌜ waitsOn s ≡ true ⌝ }
         ensures { λ r. ⌜ r ≡ tickedOn self t ⌝ }
     {
-        let offer = t.offer;
-        let answer = t.answer;
-        let mut reg = self.reg;
-        let s = self.stages().retire(&mut reg);
+        let m = s.mem_wb;
+        let c = self.counts;
+        let k = t.code(false, Mode::Normal, s.loads());
+        if 0 < k {
+            return self.refused(k);
+        }
+        let stages = s.wait(t.taken());
+        let counts = c.count(m.valid, Move::KeepWaiting);
+        Ticked {
+            state: PipelineCpu {
+                reg,
+                stages,
+                counts,
+            },
+            outcome: Outcome::Accepted,
+        }
+    }
+
+    // No wait goes on: plan, test what is given, advance, count.
+    fn tick_planned(self, s: Stages, reg: [u32; 32], t: Given) -> Ticked
+        requires { ⌜ Retired self s reg ⌝ }
+        requires { ⌜ waitsOn s ≡ false ⌝ }
+        ensures { λ r. ⌜ r ≡ tickedOn self t ⌝ }
+    {
+        let m = s.mem_wb;
+        let c = self.counts;
         let plan = s.plan(&reg);
         let place = plan.place;
         let mode = place.mode;
+        let step = plan.step;
         let k = t.code(s.fetches(plan), mode, s.loads());
         if 0 < k {
             return self.refused(k);
         }
-        let after = s.advance(plan, raw_of(offer), word_in(answer), &reg);
+        let stages = s.advance(plan, t.taken(), &reg);
+        let counts = c.count(m.valid, step);
         Ticked {
-            state: after.with(reg),
+            state: PipelineCpu {
+                reg,
+                stages,
+                counts,
+            },
             outcome: Outcome::Accepted,
         }
+    }
+
+    // A tick that moves: retire; then a wait goes on, or the tick is planned.
+    fn tick_awake(self, t: Given) -> Ticked
+        requires { ⌜ counterFull (self .counts) ≡ false ⌝ }
+        requires { ⌜ awake (self .stages) ≡ true ⌝ }
+        ensures { λ r. ⌜ r ≡ tickedOn self t ⌝ }
+    {
+        let l = self.stages;
+        let mut reg = self.reg;
+        let s = l.retire(&mut reg);
+        if s.waits_on() {
+            return self.tick_waiting(s, reg, t);
+        }
+        self.tick_planned(s, reg, t)
     }
 
     // One tick; a refused tick hands back the state it was given.
     pub fn tick(self, t: Given) -> Ticked
         ensures { λ r. ⌜ r ≡ ticked self t ⌝ }
     {
-        let k = self.standing();
+        let l = self.stages;
+        let k = self.state_code(l.is_faulty());
         if 0 < k {
             return self.refused(k);
         }
-        if self.running {
-            return self.tick_running(t);
+        if l.is_awake() {
+            return self.tick_awake(t);
         }
-        self.tick_idle(t)
+        self.tick_resting(t)
     }
 }

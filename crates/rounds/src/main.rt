@@ -1,4 +1,4 @@
-// Runs a sheet so many times from document 01's start, and writes the sum of the ticks used. Standard input:
+// Runs a sheet so many times from the start of RULES 20.1, and writes the sum of the ticks used. Standard input:
 // rounds and tick limit, four bytes each, high byte first, then the sheet.
 mod decimal;
 

@@ -1,1 +1,2 @@
-pub mod Played
+pub mod Names
+pub mod Inner

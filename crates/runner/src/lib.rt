@@ -3,16 +3,27 @@
 // Wrong programs that the promise of `run` rules out, with the must-fail edit that tries one in brackets: ticks
 // reported one off (ticks_one_off); a state after a late refusal that is not the one before the refused tick
 // (late_refusal_forgets_the_registers); 11 before 7; an answer used twice; a halted run reported as spent.
+ghost use mathlib.Core.Bool.{cond};
 ghost use mathlib.Core.Path.{_≡_};
 ghost use lib.ListN.{getD};
-ghost use Rattle.runs.specs.Run.{play, ran, reported, runCode};
-ghost use Rattle.sheet.specs.Sheet.{offerAt};
-ghost use Rattle.runner.specs.Played.{Ready, usedAfter};
+ghost use Rattle.pipeline.specs.Ask.{wantLoad};
+ghost use Rattle.runs.specs.Run.{play, ran, reported, runCode, sheetSource, turnOf};
+ghost use Rattle.runner.specs.Inner.{Ready, offeredBy, ranTo, unoffered, usedAfter};
+use isa::Instruction;
+use isa::RawInstr;
+use isa::registers::sel;
+use pipeline::Counters;
+use pipeline::Move;
 use pipeline::PipelineCpu;
+use pipeline::Plan;
+use pipeline::Stages;
+use pipeline::Taken;
 use runs::Ran;
 use sheet::End;
 use sheet::Turn;
 use sheet::check::check;
+use sheet::offer::offer_at;
+use sheet::turns::turn_by;
 
 // The next load answer; 0 where none is left, which is not looked at.
 fn answer_at(answers: &[u32], k: usize) -> u32
@@ -24,11 +35,18 @@ fn answer_at(answers: &[u32], k: usize) -> u32
     0
 }
 
-// How many answers are used behind a tick, of so many.
-fn used_after(loads: bool, k: usize, count: usize) -> usize
-    ensures { λ r. ⌜ r ≡ usedAfter loads k count ⌝ }
+// The answer that a tick takes in: the next one where it loads.
+fn answer_for(s: Stages, answers: &[u32], k: usize) -> u32
+    ensures { λ r. ⌜ r ≡ cond (wantLoad s) (getD (now (answers .entry)) k 0) 0 ⌝ }
 {
-    if loads {
+    sel(s.wants_load(), answer_at(answers, k), 0)
+}
+
+// How many answers are used behind a tick, of so many.
+fn used_after(s: Stages, k: usize, count: usize) -> usize
+    ensures { λ r. ⌜ r ≡ usedAfter (wantLoad s) k count ⌝ }
+{
+    if s.wants_load() {
         if k < count {
             return k + 1;
         }
@@ -36,40 +54,89 @@ fn used_after(loads: bool, k: usize, count: usize) -> usize
     k
 }
 
+// What the turn does; `none`: no answer is left.
+fn next_turn(s: Stages, c: Counters, spent: bool, none: bool) -> Turn
+    ensures { λ r. ⌜ r ≡ turnOf s c spent none ⌝ }
+{
+    turn_by(
+        s.running,
+        spent,
+        s.is_faulty(),
+        c.is_full(),
+        s.wants_load() & none,
+    )
+}
+
+// What a tick takes in that is offered nothing; a NOP stands for it, and is not looked at.
+fn unoffered(answer: u32) -> Taken
+    ensures { λ r. ⌜ r ≡ unoffered answer ⌝ }
+{
+    Taken {
+        answer,
+        raw: RawInstr::Normal(Instruction::Nop),
+    }
+}
+
+// What a plan takes in: what the sheet offers, where it fetches.
+fn offered(l: Stages, plan: Plan, sheet: &[u8], answer: u32) -> Taken
+    ensures { λ r. ⌜ r ≡ offeredBy l plan (sheetSource (now (sheet .entry))) answer ⌝ }
+{
+    if l.fetches(plan) {
+        let place = plan.place;
+        let mode = place.mode;
+        let raw = offer_at(sheet, place.pc, mode);
+        return Taken { answer, raw };
+    }
+    unoffered(answer)
+}
+
+// The report of a run that ends here.
+fn report(end: End, ticks: u32, reg: [u32; 32], stages: Stages, counts: Counters) -> Ran
+    ensures { λ r. ⌜ r ≡ ranTo end ticks reg stages counts ⌝ }
+{
+    let state = PipelineCpu {
+        reg,
+        stages,
+        counts,
+    };
+    Ran { end, ticks, state }
+}
+
 // The turns of a run that was not refused before its first.
 fn play(state: PipelineCpu, sheet: &[u8], answers: &[u32], limit: u32) -> Ran
     requires { ⌜ Ready (now sheet) limit state ⌝ }
-    ensures { λ r. ⌜ r ≡ reported (play (offerAt (now (sheet .entry))) limit (now (answers .entry)) state) ⌝ }
+    ensures { λ r. ⌜ r ≡ reported (play (sheetSource (now (sheet .entry))) limit (now (answers .entry)) state) ⌝ }
 {
     let mut reg = state.reg;
-    let mut s = state.stages();
+    let mut s = state.stages;
+    let mut c = state.counts;
     let mut used: usize = 0;
     let mut ticks: u32 = 0;
     while ticks <= limit {
-        let none = answers.len() <= used;
-        let word = answer_at(answers, used);
-        let t = s.turn(&mut reg, sheet, ticks == limit, none, word);
-        let turn = t.turn;
-        s = t.stages;
+        let turn = next_turn(s, c, ticks == limit, answers.len() <= used);
         match turn {
             Turn::Ends(end) => {
-                return Ran {
-                    end,
-                    ticks,
-                    state: s.with(reg),
-                };
+                return report(end, ticks, reg, s, c);
             }
             Turn::Ticks => {
-                used = used_after(t.loads, used, answers.len());
+                let answer = answer_for(s, answers, used);
+                used = used_after(s, used, answers.len());
                 ticks += 1;
+                let l = s.retire(&mut reg);
+                let m = l.mem_wb;
+                if l.waits_on() {
+                    s = l.wait(unoffered(answer));
+                    c = c.count(m.valid, Move::KeepWaiting);
+                } else {
+                    let plan = l.plan(&reg);
+                    let step = plan.step;
+                    s = l.advance(plan, offered(l, plan, sheet, answer), &reg);
+                    c = c.count(m.valid, step);
+                }
             }
         }
     }
-    Ran {
-        end: End::Spent,
-        ticks,
-        state: s.with(reg),
-    }
+    report(End::Spent, ticks, reg, s, c)
 }
 
 // 6, per record 5, 1, 2; then 7 and 11.
@@ -83,7 +150,8 @@ fn code(state: PipelineCpu, sheet: &[u8], limit: u32) -> u32
     if 1000000 < limit {
         return 7;
     }
-    if state.is_broken() {
+    let s = state.stages;
+    if s.out_of_bounds() {
         return 11;
     }
     0

@@ -16,7 +16,7 @@ module _ (prog : Program) (w : Arch) where
   front-late : (s : PipelineCpu) (t n : ℕ) → FrontOf prog w s t n → t + 3 ≤ due prog w n
   front-late s t n (f0 a b c p q d) = omega arith
   front-late s t n (f1 a b c p q d o) = omega arith
-  front-late s t n (f2 rs a b p q u v o o2) = split (s .«ex_armed»)
+  front-late s t n (f2 rs a b p q u v o o2) = split (s .stages .«ex_armed»)
       (λ z. let y = v z in omega arith)
       (λ z. let y = u z in omega arith)
 
@@ -36,7 +36,7 @@ module _ (prog : Program) (w : Arch) where
   pub live-late : (s : PipelineCpu) (t : ℕ) (asked : List Request) (l : List ℕ) (k n₁ n₂ : ℕ)
       → Live prog w s t asked l k n₁ n₂ → t < due prog w k
   live-late s t asked l k n₁ n₂ lv =
-      mw-late s (s .«mem_wb») (s .«ex_mem») t k n₁ n₂ (lv .«mem_wb») (lv .«ex_mem») (lv .front)
+      mw-late s (s .stages .«mem_wb») (s .stages .«ex_mem») t k n₁ n₂ (lv .«mem_wb») (lv .«ex_mem») (lv .front)
 
   -- later instructions are due later
   pub due-mono : (k n : ℕ) → k ≤ n → due prog w k ≤ due prog w n

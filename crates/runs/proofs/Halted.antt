@@ -11,34 +11,33 @@ use Rattle.accuracy.proofs.Path.{due}
 use Rattle.accuracy.proofs.Timing.{due-time, time-path}
 use Rattle.accuracy.specs.Accuracy.{Run, archWith, begin, oneBy}
 use Rattle.accuracy.specs.Count.{path, retireTick}
-use Rattle.pipeline.specs.Turn.{reply}
 use Rattle.isa.specs.Machine.{Arch, Program, first, isEmpty, machine}
 use Rattle.pipeline.specs.Ask.{wantLoad}
 use Rattle.pipeline.specs.Start.{fresh}
 use Rattle.pipeline.specs.Tick.{Result, moved, refused, tick}
+use Rattle.pipeline.specs.Turn.{Source, reply}
 use Rattle.runs.proofs.Plays.{play-stopped}
 use Rattle.runs.proofs.Ticks.{feeds, meets}
 use Rattle.runs.proofs.Turns.{turn-load, turn-rests}
-use Rattle.runs.specs.Claims.{RunHalted}
-use Rattle.runs.specs.Names.{End, Ends, Given, Halted, Mode, PipelineCpu, RawInstr, Spent, Ticks, Turn}
-use Rattle.runs.specs.Run.{Played, ended, leftAfter, more, play, playBy, programOf}
-use Rattle.pipeline.specs.Turn.{turnOf}
+use Rattle.runs.specs.Claims.{HaltedReport}
+use Rattle.runs.specs.Names.{End, Ends, Given, Halted, Mode, PipelineCpu, Spent, Ticks, Turn}
+use Rattle.runs.specs.Run.{Played, ended, leftAfter, more, play, playBy, programOf, reported, turnOf}
 
 -- a run with no tick left ends halted only where the machine has stopped
 last-end : (b : Bool) → cond b Spent Halted ≡ Halted → b ≡ false
 last-end true e = cc
 last-end false e = refl
 
-module _ (raw : ℕ → Mode → RawInstr) (user : Bool) (features : ℕ) (w : Arch) (len : length (w .reg) ≡ 32)
+module _ (src : Source) (user : Bool) (features : ℕ) (w : Arch) (len : length (w .reg) ≡ 32)
     (nought : getD (w .reg) 0 0 ≡ 0) where
   -- the machine's program
   abbrev P : Program
-  P = programOf raw user features
+  P = programOf src user features
 
   -- a run, t ticks behind the start, that halts at instruction K
   record Halts (t : ℕ) (p : Played) : Type 0 where
     K : ℕ
-    count : p .state .«instructions_executed» ≡ suc K
+    count : p .state .counts .«instructions_executed» ≡ suc K
     ticks : t + length (p .ticks) ≡ due P w K
     reg : p .state .reg ≡ (machine P w (suc K)) .arch .reg
     did : (machine P w (suc K)) .done ≡ suc K
@@ -57,11 +56,11 @@ module _ (raw : ℕ → Mode → RawInstr) (user : Bool) (features : ℕ) (w : A
   }
 
   -- behind the tick that retires HALT
-  at-once : (r r′ : Run) (k n : ℕ) (l : List ℕ) → Now P w len nought r r′ k → r′ .state .running ≡ false
-      → Halts (r′ .accepted) (play raw n l (r′ .state))
+  at-once : (r r′ : Run) (k n : ℕ) (l : List ℕ) → Now P w len nought r r′ k → r′ .state .stages .running ≡ false
+      → Halts (r′ .accepted) (play src n l (r′ .state))
   unfolding ended
   at-once r r′ k n l x e =
-      subst (λ (p : Played). Halts (r′ .accepted) p) (sym (play-stopped raw n l (r′ .state) e)) (record {
+      subst (λ (p : Played). Halts (r′ .accepted) p) (sym (play-stopped src n l (r′ .state) e)) (record {
         K = k;
         count = x .now;
         ticks = (let z = x .at in omega arith);
@@ -71,54 +70,61 @@ module _ (raw : ℕ → Mode → RawInstr) (user : Bool) (features : ℕ) (w : A
       })
 
   -- behind any tick
-  halts-next : (r r′ : Run) (k n : ℕ) (l : List ℕ) → r .state .running ≡ true → Step P w len nought r r′ l k
-      → ((j : ℕ) → r′ .state .running ≡ true → Inv P w len nought r′ l j
-      → Halts (r′ .accepted) (play raw n l (r′ .state)))
-      → Halts (r′ .accepted) (play raw n l (r′ .state))
+  halts-next : (r r′ : Run) (k n : ℕ) (l : List ℕ) → r .state .stages .running ≡ true → Step P w len nought r r′ l k
+      → ((j : ℕ) → r′ .state .stages .running ≡ true → Inv P w len nought r′ l j
+      → Halts (r′ .accepted) (play src n l (r′ .state)))
+      → Halts (r′ .accepted) (play src n l (r′ .state))
   halts-next r r′ k n l ru (quiet i h) ih = ih k (h ru) i
   halts-next r r′ k n l ru (committed x (live n₁ n₂ t lv c)) ih = ih (suc k) (lv .running) (live n₁ n₂ t lv c)
   halts-next r r′ k n l ru (committed x (over e c)) ih = at-once r r′ k n l x e
 
   -- a turn, by what it does and the result of its tick
-  halts-by : (r : Run) (l : List ℕ) (u : Turn) (o : Result) (k : PipelineCpu → Played) → r .state .running ≡ true
-      → turnOf (r .state) false (isEmpty l) ≡ u
-      → (playBy u o (r .state) l (reply raw (first l) (r .state)) k) .end ≡ Halted
-      → ((s : PipelineCpu) → o ≡ moved s → (k s) .end ≡ Halted → (wantLoad (r .state) ≡ true → isEmpty l ≡ false)
+  halts-by : (r : Run) (l : List ℕ) (u : Turn) (o : Result) (k : PipelineCpu → Played)
+      → r .state .stages .running ≡ true
+      → turnOf (r .state .stages) (r .state .counts) false (isEmpty l) ≡ u
+      → (playBy u o (r .state) (reply src (first l) (r .state)) k) .end ≡ Halted
+      → ((s : PipelineCpu) → o ≡ moved s → (k s) .end ≡ Halted
+      → (wantLoad ((r .state) .stages) ≡ true → isEmpty l ≡ false)
       → Halts (suc (r .accepted)) (k s))
-      → Halts (r .accepted) (playBy u o (r .state) l (reply raw (first l) (r .state)) k)
+      → Halts (r .accepted) (playBy u o (r .state) (reply src (first l) (r .state)) k)
   unfolding playBy ended more
   halts-by r l (Ends z) o k ru a e h =
       absurd (false≢true (sym (turn-rests (r .state) l (a ∙ ap (λ (x : End). Ends x) e)) ∙ ru))
   halts-by r l Ticks (refused c) k ru a e h = absurd (let z : _≡_ {A = ℕ} 0 1 = cc in omega arith)
   halts-by r l Ticks (moved s) k ru a e h =
-      one-more (r .accepted) (reply raw (first l) (r .state)) (k s) (h s refl e (turn-load (r .state) l a))
+      one-more (r .accepted) (reply src (first l) (r .state)) (k s) (h s refl e (turn-load (r .state) l a))
 
   -- a run that ends halted
-  halts-run : (n : ℕ) (l : List ℕ) (r : Run) (k : ℕ) → r .state .running ≡ true → Inv P w len nought r l k
-      → (play raw n l (r .state)) .end ≡ Halted → Halts (r .accepted) (play raw n l (r .state))
+  halts-run : (n : ℕ) (l : List ℕ) (r : Run) (k : ℕ) → r .state .stages .running ≡ true → Inv P w len nought r l k
+      → (play src n l (r .state)) .end ≡ Halted → Halts (r .accepted) (play src n l (r .state))
   unfolding play ended oneBy
-  halts-run zero l r k ru i e = absurd (false≢true (sym (last-end (r .state .running) e) ∙ ru))
+  halts-run zero l r k ru i e = absurd (false≢true (sym (last-end (r .state .stages .running) e) ∙ ru))
   halts-run (suc n) l r k ru i e =
-      let t = reply raw (first l) (r .state) in
+      let t = reply src (first l) (r .state) in
       let l′ = leftAfter (r .state) l in
-      halts-by r l (turnOf (r .state) false (isEmpty l)) (tick (r .state) t) (λ s. play raw n l′ s) ru refl e
+      halts-by r l (turnOf (r .state .stages) (r .state .counts) false (isEmpty l)) (tick (r .state) t)
+      (λ s. play src n l′ s) ru refl e
       (λ s q e′ g. halts-next r (oneBy (moved s) t r) k n l′ ru
-      (step-by P w len nought r t (moved s) q l l′ k i (λ s′ a. meets raw user features (r .state) (first l))
-      (feeds raw user features (r .state) s l g))
+      (step-by P w len nought r t (moved s) q l l′ k i (λ s′ a. meets src user features (r .state) (first l))
+      (feeds src user features (r .state) s l g))
       (λ j ru′ i′. halts-run n l′ (oneBy (moved s) t r) j ru′ i′ e′))
 
 -- from the start
-pub run-halted : RunHalted
-unfolding begin fresh programOf archWith
-run-halted raw regs pc mode user features len limit l e =
-    let prog = programOf raw user features in
+pub run-halted : (src : Source) (regs : List ℕ) (pc : ℕ) (mode : Mode) (user : Bool) (features : ℕ)
+    → length regs ≡ 32 → (limit : ℕ) (l : List ℕ)
+    → let p = play src limit l (fresh regs pc mode user features) in
+    p .end ≡ Halted
+    → HaltedReport (programOf src user features) (archWith regs pc mode l) (p .state .counts .«instructions_executed»)
+    (reported p)
+unfolding begin fresh programOf archWith reported
+run-halted src regs pc mode user features len limit l e =
+    let prog = programOf src user features in
     let w = archWith regs pc mode l in
-    let p = play raw limit l (fresh regs pc mode user features) in
-    let h = halts-run raw user features w (length-set regs 0 0 ∙ len) (getD-set-same regs 0 0 0 (omega arith)) limit l
-    (begin prog regs pc mode) 0 refl (live 0 0 0 (start-live prog regs pc mode l) refl) e in
+    let p = play src limit l (fresh regs pc mode user features) in
+    let h = halts-run src user features w (length-set regs 0 0 ∙ len) (getD-set-same regs 0 0 0 (omega arith)) limit l
+    (begin regs pc mode user features) 0 refl (live 0 0 0 (start-live prog regs pc mode l) refl) e in
     let c = h .count in
     record {
-      some = omega arith;
       ticks = (let t = h .ticks in
           let z : length (p .ticks) ≡ due prog w (h .K) = omega arith in
           z ∙ due-time prog w (h .K) ∙ sym (time-path prog w (h .K) (h .did))

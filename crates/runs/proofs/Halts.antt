@@ -15,32 +15,37 @@ use Rattle.accuracy.proofs.Path.{due}
 use Rattle.accuracy.proofs.Timing.{due-time, time-path}
 use Rattle.accuracy.specs.Accuracy.{Run, archWith, begin, oneBy}
 use Rattle.accuracy.specs.Count.{path, retireTick}
-use Rattle.pipeline.specs.Turn.{reply}
 use Rattle.isa.proofs.Bools.{split}
 use Rattle.isa.proofs.Machine.{did-next}
 use Rattle.isa.specs.Machine.{Arch, Program, first, machine}
 use Rattle.pipeline.specs.Advance.{next}
-use Rattle.pipeline.specs.Ask.{broken}
+use Rattle.pipeline.specs.Refusals.{outOfBounds}
+use Rattle.pipeline.specs.Start.{fresh}
 use Rattle.pipeline.specs.Tick.{moved, taken}
+use Rattle.pipeline.specs.Turn.{Source, reply}
+use Rattle.sheet.proofs.Fair.{Fair}
 use Rattle.runs.proofs.Counters.{Low, fresh-low, low-room, next-low}
 use Rattle.runs.proofs.Due.{due-mono, live-late}
 use Rattle.runs.proofs.Plays.{play-goes, play-stopped}
 use Rattle.runs.proofs.Replies.{goes-reply, stays-in}
 use Rattle.runs.proofs.Ticks.{feeds, meets}
 use Rattle.runs.proofs.Turns.{turn-goes}
-use Rattle.runs.proofs.Unstopped.{not-dry, not-stuck}
-use Rattle.runs.specs.Claims.{HaltsWith, RunHalts}
-use Rattle.sheet.specs.Fair.{Fair}
-use Rattle.runs.specs.Names.{Given, Mode, PipelineCpu, RawInstr}
+use Rattle.runs.proofs.Unstopped.{has-answer, not-faulty}
+use Rattle.runs.specs.Names.{Given, Halted, Mode, PipelineCpu}
 use Rattle.runs.specs.Run.{Played, ended, leftAfter, more, play, programOf}
 
-module _ (raw : ℕ → Mode → RawInstr) (ok : Fair raw) (user : Bool) (features : ℕ) (w : Arch)
+-- a run that ends halted with N retired
+pub record HaltsWith (N : ℕ) (p : Played) : Type 0 where
+  pub end : p .end ≡ Halted
+  pub retired : p .state .counts .«instructions_executed» ≡ N
+
+module _ (src : Source) (ok : Fair (src .raw)) (user : Bool) (features : ℕ) (w : Arch)
     (len : length (w .reg) ≡ 32) (nought : getD (w .reg) 0 0 ≡ 0) (K : ℕ)
-    (did : (machine (programOf raw user features) w (suc K)) .done ≡ suc K)
-    (down : (machine (programOf raw user features) w (suc K)) .runs ≡ false) where
+    (did : (machine (programOf src user features) w (suc K)) .done ≡ suc K)
+    (down : (machine (programOf src user features) w (suc K)) .runs ≡ false) where
   -- the machine's program
   abbrev P : Program
-  P = programOf raw user features
+  P = programOf src user features
 
   -- one tick before a run
   with-more : (t : Given) (p : Played) → HaltsWith (suc K) p → HaltsWith (suc K) (more t p)
@@ -48,11 +53,12 @@ module _ (raw : ℕ → Mode → RawInstr) (ok : Fair raw) (user : Bool) (featur
   with-more t p h = record { end = h .end; retired = h .retired }
 
   -- a run of a machine that has stopped
-  halts-here : (n : ℕ) (l : List ℕ) (s : PipelineCpu) → s .running ≡ false → s .«instructions_executed» ≡ suc K
-      → HaltsWith (suc K) (play raw n l s)
+  halts-here : (n : ℕ) (l : List ℕ) (s : PipelineCpu) → s .stages .running ≡ false
+      → s .counts .«instructions_executed» ≡ suc K
+      → HaltsWith (suc K) (play src n l s)
   unfolding ended
   halts-here n l s e c =
-      subst (λ (p : Played). HaltsWith (suc K) p) (sym (play-stopped raw n l s e)) (record { end = refl; retired = c })
+      subst (λ (p : Played). HaltsWith (suc K) p) (sym (play-stopped src n l s e)) (record { end = refl; retired = c })
 
   -- the machine's last instruction is the one at which the run stops
   at-end : (k : ℕ) → k < suc K → (machine P w (suc k)) .runs ≡ false → suc k ≡ suc K
@@ -71,17 +77,17 @@ module _ (raw : ℕ → Mode → RawInstr) (ok : Fair raw) (user : Bool) (featur
 
   -- a run with n ticks left: it is in bounds, no counter is above its ticks, and instruction K is due within n
   record Ready (r : Run) (n : ℕ) : Type 0 where
-    sound : broken (r .state) ≡ false
+    sound : outOfBounds ((r .state) .stages) ≡ false
     low : Low (r .state) (r .accepted)
     enough : due P w K ≤ r .accepted + n
     room : r .accepted + n < 18446744073709551615
 
   -- behind any tick
-  halts-next : (r r′ : Run) (k n : ℕ) (l : List ℕ) → r .state .running ≡ true → k < suc K
+  halts-next : (r r′ : Run) (k n : ℕ) (l : List ℕ) → r .state .stages .running ≡ true → k < suc K
       → Step P w len nought r r′ l k
       → ((j n₁ n₂ t : ℕ) → j < suc K → Live P w (r′ .state) t (r′ .requests) l j n₁ n₂ → r′ .accepted ≡ t
-      → HaltsWith (suc K) (play raw n l (r′ .state)))
-      → HaltsWith (suc K) (play raw n l (r′ .state))
+      → HaltsWith (suc K) (play src n l (r′ .state)))
+      → HaltsWith (suc K) (play src n l (r′ .state))
   halts-next r r′ k n l ru h (quiet (live n₁ n₂ t lv c) z) ih = ih k n₁ n₂ t h lv c
   halts-next r r′ k n l ru h (quiet (over a b) z) ih = absurd (false≢true (sym a ∙ z ru))
   halts-next r r′ k n l ru h (committed x (live n₁ n₂ t lv c)) ih =
@@ -91,7 +97,7 @@ module _ (raw : ℕ → Mode → RawInstr) (ok : Fair raw) (user : Bool) (featur
 
   -- a run that is ready
   halts-on : (n : ℕ) (l : List ℕ) (r : Run) (k n₁ n₂ t : ℕ) → Ready r n → k < suc K
-      → Live P w (r .state) t (r .requests) l k n₁ n₂ → r .accepted ≡ t → HaltsWith (suc K) (play raw n l (r .state))
+      → Live P w (r .state) t (r .requests) l k n₁ n₂ → r .accepted ≡ t → HaltsWith (suc K) (play src n l (r .state))
   unfolding oneBy
   halts-on zero l r k n₁ n₂ t y h lv c =
       let a = live-late P w (r .state) t (r .requests) l k n₁ n₂ lv in
@@ -99,40 +105,48 @@ module _ (raw : ℕ → Mode → RawInstr) (ok : Fair raw) (user : Bool) (featur
       let e = y .enough in
       absurd (omega arith)
   halts-on (suc n) l r k n₁ n₂ t y h lv c =
-      let a = not-stuck P w (suc K) did down (r .state) t (r .requests) l k n₁ n₂ lv h in
-      let d = not-dry P w (suc K) did down (r .state) t (r .requests) l k n₁ n₂ lv h in
+      let a = not-faulty P w (suc K) did down (r .state) t (r .requests) l k n₁ n₂ lv h in
+      let d = has-answer P w (suc K) did down (r .state) t (r .requests) l k n₁ n₂ lv h in
       let en = y .enough in
       let rm = y .room in
       let b = low-room (r .state) (r .accepted) (y .low) (omega arith) in
-      let g = reply raw (first l) (r .state) in
+      let g = reply src (first l) (r .state) in
       let s = next (r .state) (taken g) in
-      let e = goes-reply raw ok (r .state) (first l) (y .sound) a b in
+      let e = goes-reply src ok (r .state) (first l) (y .sound) a b in
       let l′ = leftAfter (r .state) l in
       let r′ = oneBy (moved s) g r in
       let y′ : Ready r′ n = record {
-        sound = stays-in raw ok (r .state) (first l) (y .sound) a b;
+        sound = stays-in src ok (r .state) (first l) (y .sound) a b;
         low = next-low (r .state) (taken g) (r .accepted) (y .low);
         enough = omega arith;
         room = omega arith;
       } in
       subst (λ (p : Played). HaltsWith (suc K) p)
-      (sym (play-goes raw n l (r .state) s (turn-goes (r .state) l (lv .running) a b d) e))
+      (sym (play-goes src n l (r .state) s (turn-goes (r .state) l (lv .running) a b d) e))
       (with-more g _ (halts-next r r′ k n l′ (lv .running) h
       (step-by P w len nought r g (moved s) e l l′ k (live n₁ n₂ t lv c)
-      (λ s′ q. meets raw user features (r .state) (first l)) (feeds raw user features (r .state) s l d))
+      (λ s′ q. meets src user features (r .state) (first l)) (feeds src user features (r .state) s l d))
       (λ j m₁ m₂ t′ h′ lv′ c′. halts-on n l′ r′ j m₁ m₂ t′ y′ h′ lv′ c′)))
 
 -- from the start; N is not 0, since the machine runs before its first step
-pub run-halts : RunHalts
+pub run-halts : (src : Source) → Fair (src .raw)
+    → (regs : List ℕ) (pc : ℕ) (mode : Mode) (user : Bool) (features : ℕ) → length regs ≡ 32
+    → (limit : ℕ) (l : List ℕ) → limit ≤ 1000000
+    → (N : ℕ) → (machine (programOf src user features) (archWith regs pc mode l) N) .done ≡ N
+    → (machine (programOf src user features) (archWith regs pc mode l) N) .runs ≡ false
+    → retireTick (programOf src user features)
+    (λ n. path (programOf src user features) (archWith regs pc mode l) n) N
+    ≤ limit
+    → HaltsWith N (play src limit l (fresh regs pc mode user features))
 unfolding begin programOf archWith machine
-run-halts raw ok regs pc mode user features len limit l small zero did down le = absurd (false≢true (sym down))
-run-halts raw ok regs pc mode user features len limit l small (suc K) did down le =
-    let prog = programOf raw user features in
+run-halts src ok regs pc mode user features len limit l small zero did down le = absurd (false≢true (sym down))
+run-halts src ok regs pc mode user features len limit l small (suc K) did down le =
+    let prog = programOf src user features in
     let w = archWith regs pc mode l in
     let d : due prog w K ≡ retireTick prog (λ n. path prog w n) (suc K) =
     due-time prog w K ∙ sym (time-path prog w K did) in
-    halts-on raw ok user features w (length-set regs 0 0 ∙ len) (getD-set-same regs 0 0 0 (omega arith)) K did down
-    limit l (begin prog regs pc mode) 0 0 0 0
+    halts-on src ok user features w (length-set regs 0 0 ∙ len) (getD-set-same regs 0 0 0 (omega arith)) K did down
+    limit l (begin regs pc mode user features) 0 0 0 0
     (record {
       sound = fresh-in regs pc mode user features;
       low = fresh-low regs pc mode user features;

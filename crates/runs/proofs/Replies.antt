@@ -3,34 +3,27 @@ use Prim.Native.Nat.{ℕ}
 use mathlib.Core.Bool.{Bool, cond, false, true}
 use mathlib.Core.Path.{_≡_, refl}
 use Rattle.accuracy.proofs.Bounds.{tick-in}
-use Rattle.pipeline.specs.Turn.{reply}
+use Rattle.accuracy.proofs.Took.{takes}
+use Rattle.isa.specs.Refusals.{isOf, rawCode}
+use Rattle.pipeline.specs.Advance.{next}
 use Rattle.pipeline.specs.Ask.{fetchAt, wantFetch, wantLoad}
-use Rattle.pipeline.specs.Tick.{badOffer, fitsOffer, givenTests, isAnswer, mfsrOffer, same, tests, tick, verdict}
-use Rattle.runs.specs.Claims.{GoesReply, StaysIn}
-use Rattle.sheet.specs.Fair.{isMfsrRaw, isOf, okRaw}
-use Rattle.runs.specs.Names.{Instr, Mode, NoAnswer, Normal, Nothing, RawInstr, RawNormal, RawShort, Short, Word}
+use Rattle.pipeline.specs.Counting.{counterFull}
+use Rattle.pipeline.specs.Refusals.{faulty, outOfBounds}
+use Rattle.pipeline.specs.Tick.{fitsOffer, isAnswer, moved, offerCode, same, taken, tick}
+use Rattle.pipeline.specs.Turn.{Source, reply}
+use Rattle.sheet.proofs.Fair.{Fair}
+use Rattle.runs.specs.Names.{Instr, Mode, NoAnswer, Nothing, PipelineCpu, RawInstr, Word}
 
--- refusal 1 does not arise
-not-bad : (b : Bool) (i : RawInstr) → okRaw i ≡ true → badOffer (cond b (Instr i) Nothing) ≡ false
-unfolding okRaw badOffer
-not-bad true (RawNormal i) e = rw e
-not-bad true (RawShort h) e = refl
-not-bad false i e = refl
-
--- refusal 2 does not arise
-not-mfsr : (b : Bool) (i : RawInstr) → isMfsrRaw i ≡ false → mfsrOffer (cond b (Instr i) Nothing) ≡ false
-unfolding isMfsrRaw mfsrOffer
-not-mfsr true (RawNormal i) e = e
-not-mfsr true (RawShort h) e = refl
-not-mfsr false i e = refl
+-- refusals 1 and 2 do not arise
+no-code : (b : Bool) (i : RawInstr) → rawCode i ≡ 0 → offerCode (cond b (Instr i) Nothing) ≡ 0
+unfolding offerCode
+no-code true i e = e
+no-code false i e = refl
 
 -- refusal 3 does not arise
 fit-offer : (b : Bool) (m : Mode) (i : RawInstr) → isOf m i ≡ true → fitsOffer b m (cond b (Instr i) Nothing) ≡ true
-unfolding fitsOffer isOf
-fit-offer true Normal (RawNormal i) e = refl
-fit-offer true Normal (RawShort h) e = e
-fit-offer true Short (RawNormal i) e = e
-fit-offer true Short (RawShort h) e = refl
+unfolding fitsOffer
+fit-offer true m i e = e
 fit-offer false m i e = refl
 
 -- refusal 4 does not arise
@@ -39,19 +32,25 @@ unfolding same isAnswer
 fit-answer true v = refl
 fit-answer false v = refl
 
--- so the tick is accepted
-pub goes-reply : GoesReply
-unfolding tick tests givenTests verdict reply
-goes-reply raw f s v a b c = rw (
-  a,
-  b,
-  c,
-  not-bad (wantFetch s) _ (f .registers ((fetchAt s) .0) ((fetchAt s) .1)),
-  not-mfsr (wantFetch s) _ (f .no-mfsr ((fetchAt s) .0) ((fetchAt s) .1)),
-  fit-offer (wantFetch s) ((fetchAt s) .1) _ (f .kind ((fetchAt s) .0) ((fetchAt s) .1)),
-  fit-answer (wantLoad s) v,
-)
+-- a state in bounds, not at 12 and with room in its counters takes the tick that a fair program answers
+pub goes-reply : (src : Source) → Fair (src .raw)
+    → (s : PipelineCpu) (v : ℕ) → outOfBounds (s .stages) ≡ false → faulty (s .stages) ≡ false → counterFull
+    (s .counts) ≡ false
+    → tick s (reply src v s) ≡ moved (next s (taken (reply src v s)))
+unfolding reply
+goes-reply src f s v a b c = takes s (reply src v s) (next s (taken (reply src v s))) (record {
+  bounds = a;
+  sound = b;
+  room = c;
+  fair = no-code (wantFetch s) _ (f .code ((fetchAt s) .pc) ((fetchAt s) .mode));
+  fetch = fit-offer (wantFetch s) ((fetchAt s) .mode) _ (f .kind ((fetchAt s) .pc) ((fetchAt s) .mode));
+  «is_load» = fit-answer (wantLoad (s .stages)) v;
+  is = refl;
+})
 
--- and refusal 11 does not arise behind it
-pub stays-in : StaysIn
-stays-in raw f s v a b c = tick-in s (reply raw v s) _ (goes-reply raw f s v a b c)
+-- the state after that tick is in bounds too
+pub stays-in : (src : Source) → Fair (src .raw)
+    → (s : PipelineCpu) (v : ℕ) → outOfBounds (s .stages) ≡ false → faulty (s .stages) ≡ false → counterFull
+    (s .counts) ≡ false
+    → outOfBounds ((next s (taken (reply src v s))) .stages) ≡ false
+stays-in src f s v a b c = tick-in s (reply src v s) _ (goes-reply src f s v a b c)

@@ -1,62 +1,73 @@
 -- The rows, by computation. Assumes nothing.
 use mathlib.Core.Path.{refl}
-use Rattle.pipeline.specs.Turn.{reply}
-use Rattle.accuracy.specs.Table.{behindRow, branchRow, divideRow, figures, haltRow, loadRow, loopRow, multiplyRow}
-use Rattle.accuracy.specs.Table.{offerAt, offerIn, shortRow, zeros}
-use Rattle.isa.specs.Effect.{branches, calm, effectN, effectOf, effectS, fall, gives, jumps, nothing}
-use Rattle.isa.specs.Effect.{privileged, raises, reaches, size}
-use Rattle.isa.specs.Machine.{destOf, destWhere, first, isEmpty, rest}
+use Rattle.isa.specs.Effect.{branches, effectN, effectOf, effectS, fall, gives, goesBy, goesOn, identifies, jumps}
+use Rattle.isa.specs.Effect.{links, marked, noAccess, noMarks, noResult, nothing, privileged, raises, reaches, resumes}
+use Rattle.isa.specs.Effect.{sets, size, stops, written}
+use Rattle.isa.specs.Machine.{destOf, first, isEmpty, rest}
 use Rattle.isa.specs.Operands.{bare, binary, branching, gpr, loading, okDest, okOperands, operandsN, operandsOf}
-use Rattle.isa.specs.Operands.{operandsS, plain, unary, writes}
+use Rattle.isa.specs.Operands.{operandsS, plain, reads, special, storing, unary, writes}
 use Rattle.isa.specs.Redirects.{isException, isMtsr, isTo, modeOr, newModeOr, targetOr}
+use Rattle.isa.specs.Refusals.{decodedCode, instructionCode, isOf, rawCode}
 use Rattle.isa.specs.Registers.{isDest, isNamed, isReg, putReg, readReg}
 use Rattle.isa.specs.Short.{decodeShort, decodedOf, lowBits, nibble, shortBy}
-use Rattle.isa.specs.Waits.{isNegative, isUsed, predict, predictBy, waits, waitsBy}
-use Rattle.latch.specs.Bounds.{badDecoded, badExMem, badIdEx, badIfId, badInstruction, badMemWb, badRaw, badWidth}
+use Rattle.isa.specs.Waits.{isNegative, isUsed, predict, predictBy, waits}
+use Rattle.latch.specs.Bounds.{badExMem, badIdEx, badIfId, badMemWb, badWidth}
 use Rattle.latch.specs.Decode.{decodePredicted, idExBy, idExOf, loadUse}
-use Rattle.latch.specs.Execute.{effectIn, exMemOf, mispredict}
-use Rattle.latch.specs.Forwarding.{fromExMem, fromMemWb}
+use Rattle.latch.specs.Execute.{effectFrom, effectIn, exMemOf, mispredict, operandB}
+use Rattle.latch.specs.Forwarding.{cpuidWord, forwardFrom, fromExMem, fromMemWb}
 use Rattle.latch.specs.Latches.{cleared, emptyExMem, emptyIdEx, emptyIfId, emptyMemWb}
-use Rattle.latch.specs.Memory.{destAfter, loads, memWbOf, stores, valueAfter, writesAfter}
-use Rattle.latch.specs.Retire.{halts, isFaulty, retireCpuid, retireReg, retiredMode, retiredRegs}
-use Rattle.pipeline.specs.Advance.{advance, advanceBy, awake, next, proceeding, redirecting, stalling, waiting}
-use Rattle.pipeline.specs.Ask.{brimming, broken, fetchAt, isFull, stuck, wantFetch, wantLoad}
-use Rattle.pipeline.specs.Execute.{effectFor, executed, executedBy, operandB, redirectBy, redirectOf}
-use Rattle.pipeline.specs.Fetch.{fetchPlace, fetched, fetches, nextIdEx, predicted}
-use Rattle.pipeline.specs.Forwarding.{forwarded}
-use Rattle.pipeline.specs.Move.{choose, chooseDone, chooseFree, hazard, isSlow, move, nextExMem, proceedOr}
-use Rattle.pipeline.specs.Retire.{retire}
+use Rattle.latch.specs.Memory.{destAfter, loads, memWbOf, passedOn, stores, valueAfter, writesAfter}
+use Rattle.latch.specs.Retire.{halts, isFaulty, retireCpuid, retireReg, retiredMode, retiredPc, retiredRegs}
+use Rattle.pipeline.specs.Advance.{advance, advanceBy, advanceStages, awake, idExAfter, ifIdAfter, next, placeAfter}
+use Rattle.pipeline.specs.Advance.{resting, waitAfter}
+use Rattle.pipeline.specs.Ask.{fetchAt, loadsIn, wantFetch, wantLoad}
+use Rattle.pipeline.specs.Counting.{countIdle, countRetired, counted, counterFull, flushes, isFull, stalls}
+use Rattle.pipeline.specs.Execute.{effectFor, executed, executedBy, redirectBy, redirectOf}
+use Rattle.pipeline.specs.Fetch.{fetchFrom, fetchPlace, fetched, fetches, nextIdEx, placeOr, predicted}
+use Rattle.pipeline.specs.Move.{beginsWait, freeMove, hazard, isSlow, isWait, move, moveFrom, nextExMem, proceedOr}
+use Rattle.pipeline.specs.Move.{waitsOn}
+use Rattle.pipeline.specs.Refusals.{andThen, faulty, outOfBounds, stateTests}
+use Rattle.pipeline.specs.Retire.{retire, retireStages}
 use Rattle.pipeline.specs.Start.{fresh}
-use Rattle.pipeline.specs.Tick.{badOffer, fitsOffer, givenTests, isAnswer, mfsrOffer, rawOf, same, taken, tests}
-use Rattle.pipeline.specs.Tick.{tick, verdict, wordIn}
-use Rattle.runs.specs.Rows.{Rows, row, seen}
-use Rattle.runs.specs.Run.{ended, leftAfter, more, play, playBy, reported}
-use Rattle.pipeline.specs.Turn.{turnOf}
+use Rattle.pipeline.specs.Tick.{fitsOffer, givenTests, isAnswer, offerCode, rawOf, same, taken, tests, tick, verdict}
+use Rattle.pipeline.specs.Tick.{wordIn}
+use Rattle.pipeline.specs.Turn.{reply}
+use Rattle.sheet.specs.Records.{both, farOf, halfOf, jumpOf, lineIf, offsetOf, plainOf, recordOf, threeOf, within}
+use Rattle.sheet.specs.Records.{zeros}
+use Rattle.sheet.specs.Sheet.{badLength, codeAt, firstCode, lineOffer, offerAt, offerIn, pairOffer, recordAt}
+use Rattle.sheet.specs.Sheet.{recordCode, sheetCode, unknownOf}
 use Rattle.sheet.specs.Turns.{turnBy}
 use Rattle.word.proofs.Rows.{rows as arithmetic}
-use Rattle.word.specs.Words.{add32, bit, div32, mul32, offset32}
+use Rattle.word.specs.Words.{add32, and32, bit, div32, divu32, ldih32, ldil32, mod32, mul32, mulh32, offset32, or32}
+use Rattle.word.specs.Words.{sll32, slt32, sltu32, sra32, srl32, sub32, xor32}
+use Rattle.runs.specs.Rows.{Rows, haltSheet, loadSheet, row, seen}
+use Rattle.runs.specs.Run.{ended, leftAfter, more, play, playBy, ran, refusedRun, reported, runCode, turnOf}
 
 pub rows : Rows
-unfolding isReg bit add32 offset32 mul32 div32 nibble lowBits shortBy decodeShort decodedOf gpr plain bare writes
-    unary binary loading branching operandsN operandsS operandsOf okDest okOperands size fall calm nothing gives
-    reaches branches jumps raises privileged effectN effectS effectOf isTo targetOr modeOr newModeOr isException
-    isMtsr readReg putReg isDest isNamed waits waitsBy isUsed isNegative predict predictBy first rest isEmpty destOf
-    destWhere emptyIfId emptyIdEx emptyExMem emptyMemWb cleared idExOf idExBy decodePredicted loadUse fromMemWb
-    fromExMem effectIn exMemOf mispredict loads stores memWbOf destAfter writesAfter valueAfter halts retireReg
-    retireCpuid retiredRegs retiredMode isFaulty badInstruction badRaw badDecoded badWidth badIfId badIdEx badExMem
-    badMemWb forwarded operandB effectFor executed executedBy redirectOf redirectBy retire hazard proceedOr chooseFree
-    chooseDone choose move isSlow predicted fetchPlace fetches fetched nextIdEx advance advanceBy nextExMem awake next
-    waiting stalling proceeding redirecting
-    fresh wantFetch fetchAt wantLoad broken stuck isFull brimming badOffer mfsrOffer fitsOffer isAnswer same rawOf
-    wordIn taken verdict givenTests tests tick reply offerIn offerAt figures zeros haltRow multiplyRow loadRow loopRow
-    branchRow divideRow behindRow shortRow turnBy turnOf ended more playBy leftAfter play reported seen row
+unfolding bit add32 sub32 offset32 and32 or32 xor32 sll32 srl32 sra32 slt32 sltu32 mul32 mulh32 div32 divu32 mod32
+    ldil32 ldih32 size fall written noResult noAccess noMarks goesOn goesBy marked nothing gives reaches branches
+    jumps links stops resumes identifies raises sets privileged effectN effectS effectOf first rest isEmpty destOf gpr
+    plain bare writes unary binary reads loading storing branching special operandsN operandsS operandsOf okDest
+    okOperands isTo targetOr modeOr newModeOr isException isMtsr instructionCode rawCode decodedCode isOf isReg
+    readReg putReg isDest isNamed nibble lowBits shortBy decodeShort decodedOf waits isUsed isNegative predictBy
+    predict both zeros lineIf plainOf threeOf offsetOf halfOf jumpOf farOf within recordOf recordAt unknownOf
+    lineOffer pairOffer offerIn offerAt recordCode codeAt firstCode badLength sheetCode turnBy badWidth badIfId
+    badIdEx badExMem badMemWb idExBy idExOf decodePredicted loadUse effectIn exMemOf mispredict operandB effectFrom
+    cpuidWord fromMemWb fromExMem forwardFrom emptyIfId emptyIdEx emptyExMem emptyMemWb cleared loads stores destAfter
+    writesAfter valueAfter passedOn memWbOf halts retireReg retireCpuid retiredRegs retiredPc retiredMode isFaulty
+    placeAfter ifIdAfter idExAfter waitAfter advanceBy advanceStages advance awake resting next wantFetch fetchAt
+    loadsIn wantLoad countRetired stalls flushes counted countIdle isFull counterFull effectFor executedBy executed
+    redirectBy redirectOf predicted placeOr fetchFrom fetchPlace fetches fetched nextIdEx waitsOn hazard isSlow
+    beginsWait proceedOr moveFrom freeMove move isWait nextExMem andThen outOfBounds faulty stateTests retireStages
+    retire fresh offerCode fitsOffer isAnswer same rawOf wordIn taken verdict givenTests tests tick reply seen row
+    haltSheet loadSheet turnOf ended more playBy leftAfter play reported runCode refusedRun ran
 rows = record {
   halt = refl;
   four = refl;
   nought = refl;
   multiply = refl;
   load = refl;
-  dry = refl;
+  unanswered = refl;
   loop = refl;
   branch = refl;
   divide = refl;

@@ -8,26 +8,27 @@ use mathlib.Core.Path.{_≡_}
 use native.Mathlib.Omega.{arith}
 use Rattle.accuracy.proofs.Bounds.{fresh-in}
 use Rattle.isa.proofs.Bools.{split}
-use Rattle.pipeline.specs.Ask.{broken}
+use Rattle.pipeline.specs.Refusals.{outOfBounds}
 use Rattle.pipeline.specs.Start.{fresh}
+use Rattle.sheet.proofs.Fair.{sheet-fair}
+use Rattle.sheet.specs.Sheet.{sheetCode}
 use Rattle.runs.proofs.Halted.{run-halted}
 use Rattle.runs.proofs.Halts.{run-halts}
 use Rattle.runs.specs.Claims.{SheetHalted, SheetHalts}
 use Rattle.runs.specs.Names.{PipelineCpu}
-use Rattle.runs.specs.Run.{play, ran, refusedRun, reported, runCode}
-use Rattle.sheet.proofs.Fair.{sheet-fair}
-use Rattle.sheet.specs.Sheet.{offerAt, sheetCode}
+use Rattle.runs.specs.Run.{play, ran, refusedRun, reported, runCode, sheetSource}
 
 -- the report of a run that is not refused before its first turn
-ran-is : (s : PipelineCpu) (sheet l : List ℕ) (limit : ℕ) → sheetCode sheet ≡ 0 → limit ≤ 1000000 → broken s ≡ false
-    → ran s sheet l limit ≡ reported (play (offerAt sheet) limit l s)
+ran-is : (s : PipelineCpu) (sheet l : List ℕ) (limit : ℕ) → sheetCode sheet ≡ 0 → limit ≤ 1000000
+    → outOfBounds (s .stages) ≡ false
+    → ran s sheet l limit ≡ reported (play (sheetSource sheet) limit l s)
 unfolding ran runCode
 ran-is s sheet l limit e h b = rw (e, le-ltb 1000000 limit h, b)
 
 pub sheet-halts : SheetHalts
 unfolding reported
 sheet-halts sheet e regs pc mode user features len limit l h N d r t =
-    let k = run-halts (offerAt sheet) (sheet-fair sheet e) regs pc mode user features len limit l h N d r t in
+    let k = run-halts (sheetSource sheet) (sheet-fair sheet e) regs pc mode user features len limit l h N d r t in
     rw (ran-is (fresh regs pc mode user features) sheet l limit e h (fresh-in regs pc mode user features))
     (k .end, k .retired)
 
@@ -36,5 +37,4 @@ unfolding ran refusedRun reported
 sheet-halted sheet regs pc mode user features len limit l =
     split (ltb 0 (runCode (fresh regs pc mode user features) sheet limit))
     (λ a. rw a (λ e. absurd (let z : _≡_ {A = ℕ} 0 1 = cc in omega arith)))
-    (λ a. rw a (λ e. let k = run-halted (offerAt sheet) regs pc mode user features len limit l e in
-    record { ticks = k .ticks; reg = k .reg; did = k .did; halts = k .halts }))
+    (λ a. rw a (λ e. run-halted (sheetSource sheet) regs pc mode user features len limit l e))

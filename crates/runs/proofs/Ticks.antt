@@ -1,4 +1,4 @@
--- A run's ticks are a list of accepted ticks that meets demand 3's premise; so demand 3 holds of a run. Assumes
+-- A run's ticks are a list of accepted ticks that meets RULES 15.4; so RULES 15.6 holds of a run. Assumes
 -- nothing.
 use Prim.Native.Nat.{_+_, suc, zero, ℕ}
 use lib.ListN.{length}
@@ -8,17 +8,17 @@ use mathlib.Core.Path.{_∙_, _≡_, ap, refl, subst, sym}
 use native.Mathlib.Omega.{arith}
 use Rattle.accuracy.proofs.Accuracy.{demand3-fed}
 use Rattle.accuracy.proofs.Feeding.{Fed, FeedsBy}
-use Rattle.accuracy.proofs.Sense.{reply-meets}
-use Rattle.accuracy.specs.Accuracy.{Meets, Offers, Run, after, begin, one, oneBy}
-use Rattle.pipeline.specs.Turn.{reply}
+use Rattle.accuracy.proofs.Offers.{AllMeet, Meets, reply-offer}
+use Rattle.accuracy.specs.Accuracy.{Run, after, begin, one, oneBy}
 use Rattle.isa.specs.Machine.{Program, first, isEmpty}
+use Rattle.pipeline.specs.Advance.{next}
 use Rattle.pipeline.specs.Ask.{wantLoad}
 use Rattle.pipeline.specs.Tick.{Result, moved, refused, tick, wordIn}
+use Rattle.pipeline.specs.Turn.{Source, reply}
 use Rattle.runs.proofs.Turns.{turn-load}
 use Rattle.runs.specs.Claims.{RanTicks, RunRetires, RunTicks}
-use Rattle.runs.specs.Names.{End, Ends, Mode, NoAnswer, PipelineCpu, RawInstr, Ticks, Turn, Word}
-use Rattle.runs.specs.Run.{Played, ended, leftAfter, more, play, playBy, programOf}
-use Rattle.pipeline.specs.Turn.{turnOf}
+use Rattle.runs.specs.Names.{End, Ends, NoAnswer, PipelineCpu, Ticks, Turn, Word}
+use Rattle.runs.specs.Run.{Played, ended, leftAfter, more, play, playBy, programOf, turnOf}
 
 -- the word of an answer given where a load is wanted
 word-is : (b : Bool) (v : ℕ) → b ≡ true → wordIn (cond b (Word v) NoAnswer) ≡ v
@@ -26,31 +26,31 @@ unfolding wordIn
 word-is true v e = refl
 word-is false v e = cc
 
-module _ (raw : ℕ → Mode → RawInstr) (user : Bool) (features : ℕ) where
+module _ (src : Source) (user : Bool) (features : ℕ) where
   -- the machine's program
   abbrev P : Program
-  P = programOf raw user features
+  P = programOf src user features
 
   -- a tick of the run offers the machine's instruction
-  pub meets : (s : PipelineCpu) (v : ℕ) → Meets P s (reply raw v s)
+  pub meets : (s : PipelineCpu) (v : ℕ) → Meets P s (reply src v s)
   unfolding programOf
-  meets s v = reply-meets (programOf raw user features) raw (λ p m. refl) v s
+  meets s v = record { offer = λ i e. reply-offer src v s i e }
 
   -- and feeds the machine the next answer left
-  pub feeds : (s s′ : PipelineCpu) (l : List ℕ) → (wantLoad s ≡ true → isEmpty l ≡ false)
-      → FeedsBy P (moved s′) s (reply raw (first l) s) l (leftAfter s l)
+  pub feeds : (s s′ : PipelineCpu) (l : List ℕ) → (wantLoad (s .stages) ≡ true → isEmpty l ≡ false)
+      → FeedsBy P (moved s′) s (reply src (first l) s) l (leftAfter s l)
   unfolding FeedsBy reply programOf leftAfter
-  feeds s s′ l h = record { asked = λ e. (h e, sym (word-is (wantLoad s) _ e)); next = refl }
+  feeds s s′ l h = record { asked = λ e. (h e, sym (word-is (wantLoad (s .stages)) _ e)); next = refl }
 
   -- a run of at most n ticks from r with load answers l: its ticks meet the premise and feed the machine l
   record Follows (r : Run) (n : ℕ) (l : List ℕ) (p : Played) : Type 0 where
     ran : RanTicks r n p
-    offers : Offers P r (p .ticks)
+    offers : AllMeet P r (p .ticks)
     fed : Fed P r l (p .ticks)
 
   -- a run that ends at once
-  no-ticks : (e : End) (r : Run) (n : ℕ) (l : List ℕ) → Follows r n l (ended e (r .state) l)
-  unfolding ended after Fed Offers
+  no-ticks : (e : End) (r : Run) (n : ℕ) (l : List ℕ) → Follows r n l (ended e (r .state))
+  unfolding ended after Fed AllMeet
   no-ticks e r n l = record {
     ran = record { state = refl; accepted = omega arith; within = omega arith };
     offers = tt;
@@ -63,12 +63,13 @@ module _ (raw : ℕ → Mode → RawInstr) (user : Bool) (features : ℕ) where
 
   -- a run behind one accepted tick
   more-ticks : (r : Run) (n : ℕ) (l : List ℕ) (s : PipelineCpu) (p : Played)
-      → tick (r .state) (reply raw (first l) (r .state)) ≡ moved s → (wantLoad (r .state) ≡ true → isEmpty l ≡ false)
-      → Follows (oneBy (moved s) (reply raw (first l) (r .state)) r) n (leftAfter (r .state) l) p
-      → Follows r (suc n) l (more (reply raw (first l) (r .state)) p)
-  unfolding more after Fed Offers one oneBy
+      → tick (r .state) (reply src (first l) (r .state)) ≡ moved s
+      → (wantLoad ((r .state) .stages) ≡ true → isEmpty l ≡ false)
+      → Follows (oneBy (moved s) (reply src (first l) (r .state)) r) n (leftAfter (r .state) l) p
+      → Follows r (suc n) l (more (reply src (first l) (r .state)) p)
+  unfolding more after Fed AllMeet one oneBy
   more-ticks r n l s p e h f =
-      let t = reply raw (first l) (r .state) in
+      let t = reply src (first l) (r .state) in
       let q : oneBy (moved s) t r ≡ one r t = ap (λ (x : Result). oneBy x t r) (sym e) in
       let w = f .ran .within in
       record {
@@ -78,7 +79,7 @@ module _ (raw : ℕ → Mode → RawInstr) (user : Bool) (features : ℕ) where
               ∙ bump (r .accepted) (length (p .ticks));
           within = omega arith;
         };
-        offers = ((λ s′ a. meets (r .state) (first l)), subst (λ (x : Run). Offers P x (p .ticks)) q (f .offers));
+        offers = ((λ s′ a. meets (r .state) (first l)), subst (λ (x : Run). AllMeet P x (p .ticks)) q (f .offers));
         fed = (
           leftAfter (r .state) l,
           subst (λ (o : Result). FeedsBy P o (r .state) t l (leftAfter (r .state) l)) (sym e)
@@ -89,34 +90,36 @@ module _ (raw : ℕ → Mode → RawInstr) (user : Bool) (features : ℕ) where
 
   -- a turn, by what it does and the result of its tick
   follows-by : (r : Run) (n : ℕ) (l : List ℕ) (u : Turn) (o : Result) (k : PipelineCpu → Played)
-      → turnOf (r .state) false (isEmpty l) ≡ u → tick (r .state) (reply raw (first l) (r .state)) ≡ o
-      → ((s : PipelineCpu) → Follows (oneBy (moved s) (reply raw (first l) (r .state)) r) n
+      → turnOf (r .state .stages) (r .state .counts) false (isEmpty l) ≡ u → tick (r .state) (reply src (first l)
+      (r .state)) ≡ o
+      → ((s : PipelineCpu) → Follows (oneBy (moved s) (reply src (first l) (r .state)) r) n
       (leftAfter (r .state) l) (k s))
-      → Follows r (suc n) l (playBy u o (r .state) l (reply raw (first l) (r .state)) k)
+      → Follows r (suc n) l (playBy u o (r .state) (reply src (first l) (r .state)) k)
   unfolding playBy
   follows-by r n l (Ends e) o k a b h = no-ticks e r (suc n) l
   follows-by r n l Ticks (refused c) k a b h = no-ticks _ r (suc n) l
   follows-by r n l Ticks (moved s) k a b h = more-ticks r n l s (k s) b (turn-load (r .state) l a) (h s)
 
   -- every run
-  follows : (n : ℕ) (l : List ℕ) (r : Run) → Follows r n l (play raw n l (r .state))
+  follows : (n : ℕ) (l : List ℕ) (r : Run) → Follows r n l (play src n l (r .state))
   unfolding play oneBy
   follows zero l r = no-ticks _ r zero l
   follows (suc n) l r =
-      follows-by r n l (turnOf (r .state) false (isEmpty l)) (tick (r .state) (reply raw (first l) (r .state)))
-      (λ s. play raw n (leftAfter (r .state) l) s) refl refl
-      (λ s. follows n (leftAfter (r .state) l) (oneBy (moved s) (reply raw (first l) (r .state)) r))
+      follows-by r n l (turnOf (r .state .stages) (r .state .counts) false (isEmpty l)) (tick (r .state) (reply src
+      (first l) (r .state)))
+      (λ s. play src n (leftAfter (r .state) l) s) refl refl
+      (λ s. follows n (leftAfter (r .state) l) (oneBy (moved s) (reply src (first l) (r .state)) r))
 
 -- the ticks of a run
 pub run-ticks : RunTicks
-run-ticks raw limit l r = (follows raw false 0 limit l r) .ran
+run-ticks src limit l r = (follows src false 0 limit l r) .ran
 
--- demand 3 for a run: every N up to its retired count
+-- RULES 15.6 for a run: every N up to its retired count
 pub run-retires : RunRetires
 unfolding begin programOf
-run-retires raw regs pc mode user features len limit l N a b =
-    let prog = programOf raw user features in
-    let r = begin prog regs pc mode in
-    let f = follows raw user features limit l r in
-    let z = ap (λ (x : PipelineCpu). x .«instructions_executed») (f .ran .state) in
-    demand3-fed prog regs pc mode len ((play raw limit l (r .state)) .ticks) l (f .offers) (f .fed) N a (omega arith)
+run-retires src regs pc mode user features len limit l N a b =
+    let prog = programOf src user features in
+    let r = begin regs pc mode user features in
+    let f = follows src user features limit l r in
+    let z = ap (λ (x : PipelineCpu). x .counts .«instructions_executed») (f .ran .state) in
+    demand3-fed prog regs pc mode len ((play src limit l (r .state)) .ticks) l (f .offers) (f .fed) N a (omega arith)

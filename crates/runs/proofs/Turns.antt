@@ -5,26 +5,30 @@ use mathlib.Core.List.{List}
 use mathlib.Core.Path.{_≡_, refl}
 use Rattle.isa.proofs.Bools.{and-r, split}
 use Rattle.isa.specs.Machine.{isEmpty}
-use Rattle.pipeline.specs.Ask.{brimming, stuck, wantLoad}
-use Rattle.runs.specs.Names.{Ends, Halted, PipelineCpu, Ticks}
-use Rattle.pipeline.specs.Turn.{turnOf}
+use Rattle.pipeline.specs.Ask.{wantLoad}
+use Rattle.pipeline.specs.Counting.{counterFull}
+use Rattle.pipeline.specs.Refusals.{faulty}
 use Rattle.sheet.specs.Turns.{turnBy}
+use Rattle.runs.specs.Names.{Ends, Halted, PipelineCpu, Ticks}
+use Rattle.runs.specs.Run.{turnOf}
 
--- by the five tests, a turn that ticks is not dry
-dry-by : (r p a b d : Bool) → turnBy r p a b d ≡ Ticks → d ≡ false
+-- by the five tests, a turn that ticks is not unanswered
+answered-by : (r p a b d : Bool) → turnBy r p a b d ≡ Ticks → d ≡ false
 unfolding turnBy
-dry-by r p a b false e = refl
-dry-by true true a b true e = cc
-dry-by true false true b true e = cc
-dry-by true false false true true e = cc
-dry-by true false false false true e = cc
-dry-by false p a b true e = cc
+answered-by r p a b false e = refl
+answered-by true true a b true e = cc
+answered-by true false true b true e = cc
+answered-by true false false true true e = cc
+answered-by true false false false true e = cc
+answered-by false p a b true e = cc
 
 -- a turn that ticks has an answer for its load
-pub turn-load : (s : PipelineCpu) (l : List ℕ) → turnOf s false (isEmpty l) ≡ Ticks → wantLoad s ≡ true
+pub turn-load : (s : PipelineCpu) (l : List ℕ) → turnOf (s .stages) (s .counts) false (isEmpty l) ≡ Ticks → wantLoad
+    (s .stages) ≡ true
     → isEmpty l ≡ false
 unfolding turnOf
-turn-load s l e h = and-r (wantLoad s) (isEmpty l) (dry-by (s .running) false (stuck s) (brimming s) _ e) h
+turn-load s l e h = and-r (wantLoad (s .stages)) (isEmpty l)
+    (answered-by (s .stages .running) false (faulty (s .stages)) (counterFull (s .counts)) _ e) h
 
 -- by the five tests, only a machine that has stopped ends halted
 rests-by : (r p a b d : Bool) → turnBy r p a b d ≡ Ends Halted → r ≡ false
@@ -37,12 +41,14 @@ rests-by true false false false true e = cc
 rests-by true false false false false e = cc
 
 -- a turn that ends halted is of a machine that has stopped
-pub turn-rests : (s : PipelineCpu) (l : List ℕ) → turnOf s false (isEmpty l) ≡ Ends Halted → s .running ≡ false
+pub turn-rests : (s : PipelineCpu) (l : List ℕ) → turnOf (s .stages) (s .counts) false (isEmpty l) ≡ Ends Halted
+    → s .stages .running ≡ false
 unfolding turnOf
-turn-rests s l e = rests-by (s .running) false (stuck s) (brimming s) _ e
+turn-rests s l e = rests-by (s .stages .running) false (faulty (s .stages)) (counterFull (s .counts)) _ e
 
 -- a turn of a running machine with no refusal and no load unanswered ticks
-pub turn-goes : (s : PipelineCpu) (l : List ℕ) → s .running ≡ true → stuck s ≡ false → brimming s ≡ false
-    → (wantLoad s ≡ true → isEmpty l ≡ false) → turnOf s false (isEmpty l) ≡ Ticks
+pub turn-goes : (s : PipelineCpu) (l : List ℕ) → s .stages .running ≡ true → faulty (s .stages) ≡ false
+    → counterFull (s .counts) ≡ false
+    → (wantLoad (s .stages) ≡ true → isEmpty l ≡ false) → turnOf (s .stages) (s .counts) false (isEmpty l) ≡ Ticks
 unfolding turnOf turnBy
-turn-goes s l a b c d = split (wantLoad s) (λ e. rw (b, c, e, d e, a)) (λ e. rw (b, c, e, a))
+turn-goes s l a b c d = split (wantLoad (s .stages)) (λ e. rw (b, c, e, d e, a)) (λ e. rw (b, c, e, a))

@@ -15,11 +15,13 @@ use Rattle.isa.specs.Machine.{Arch, Program, effectAt, instructionAt, isBarred,
 use Rattle.isa.specs.Operands.{operandsOf}
 use Rattle.latch.specs.Execute.{exMemOf}
 use Rattle.latch.specs.Latches.{emptyExMem, emptyMemWb}
-use Rattle.latch.specs.Memory.{loads, memWbOf}
+use Rattle.latch.specs.Memory.{loads, memWbOf, passedOn}
 use Rattle.latch.specs.Retire.{halts, isFaulty}
 use Rattle.pipeline.specs.Advance.{awake}
-use Rattle.pipeline.specs.Ask.{stuck, wantLoad}
-use Rattle.pipeline.specs.Retire.{retire}
+use Rattle.pipeline.specs.Ask.{loadsIn, wantLoad}
+use Rattle.pipeline.specs.Counting.{countRetired}
+use Rattle.pipeline.specs.Refusals.{faulty}
+use Rattle.pipeline.specs.Retire.{retire, retireStages}
 use Rattle.runs.specs.Names.{ExMem, MemWb, PipelineCpu, Request}
 
 -- a load left after retirement is EX/MEM's, and no HALT has retired
@@ -30,10 +32,10 @@ want-by true l e = (cc, cc)
 want-by false l e = (refl, e)
 
 -- the same of a state
-want-is : (s : PipelineCpu) → wantLoad s ≡ true
-    → (halts (s .«mem_wb») ≡ false) × ((s .«ex_mem» .valid && loads (s .«ex_mem»)) ≡ true)
-unfolding wantLoad retire
-want-is s e = want-by (halts (s .«mem_wb»)) (s .«ex_mem») (both-r (awake s) _ e)
+want-is : (s : PipelineCpu) → wantLoad (s .stages) ≡ true
+    → (halts (s .stages .«mem_wb») ≡ false) × ((s .stages .«ex_mem» .valid && loads (s .stages .«ex_mem»)) ≡ true)
+unfolding wantLoad loadsIn retire retireStages countRetired
+want-is s e = want-by (halts (s .stages .«mem_wb»)) (s .stages .«ex_mem») (both-r (awake (s .stages)) _ e)
 
 module _ (prog : Program) (w : Arch) where
   -- the machine's path, with no stopping
@@ -42,12 +44,12 @@ module _ (prog : Program) (w : Arch) where
 
   -- MEM/WB with an instruction that is not barred
   mw-sound : (v : Arch) → isBarred (effectAt prog (instructionAt prog v) v) ≡ false → isFaulty (mwAt prog v) ≡ false
-  unfolding mwAt memWbOf xmAt exMemOf effOf isFaulty isBarred
+  unfolding mwAt memWbOf passedOn xmAt exMemOf effOf isFaulty isBarred
   mw-sound v e = e
 
   -- MEM/WB halts with HALT only
-  mw-halt : (v : Arch) → halts (mwAt prog v) ≡ (effectAt prog (instructionAt prog v) v) .halt
-  unfolding halts mwAt memWbOf xmAt exMemOf effOf
+  mw-halt : (v : Arch) → halts (mwAt prog v) ≡ (effectAt prog (instructionAt prog v) v) .marks .halt
+  unfolding halts mwAt memWbOf passedOn xmAt exMemOf effOf
   mw-halt v = refl
 
   module _ (N : ℕ) (did : (machine prog w N) .done ≡ N) (down : (machine prog w N) .runs ≡ false) where
@@ -75,18 +77,18 @@ module _ (prog : Program) (w : Arch) where
     mw-fine l t k n (Mw.full e d o g) h = rw e (mw-sound (W k) (fine-bar k h))
 
     -- so 12 does not arise
-    pub not-stuck : (s : PipelineCpu) (t : ℕ) (asked : List Request) (l : List ℕ) (k n₁ n₂ : ℕ)
-        → Live prog w s t asked l k n₁ n₂ → k < N → stuck s ≡ false
-    unfolding stuck
-    not-stuck s t asked l k n₁ n₂ lv h =
-        let e = mw-fine (s .«mem_wb») t k n₁ (lv .«mem_wb») h in
-        split (awake s) (λ z. rw (z, e)) (λ z. rw z)
+    pub not-faulty : (s : PipelineCpu) (t : ℕ) (asked : List Request) (l : List ℕ) (k n₁ n₂ : ℕ)
+        → Live prog w s t asked l k n₁ n₂ → k < N → faulty (s .stages) ≡ false
+    unfolding faulty
+    not-faulty s t asked l k n₁ n₂ lv h =
+        let e = mw-fine (s .stages .«mem_wb») t k n₁ (lv .«mem_wb») h in
+        split (awake (s .stages)) (λ z. rw (z, e)) (λ z. rw z)
 
     -- the last of the N is HALT
-    last-halt : (k : ℕ) → suc k ≡ N → (effectAt prog (instructionAt prog (W k)) (W k)) .halt ≡ true
+    last-halt : (k : ℕ) → suc k ≡ N → (effectAt prog (instructionAt prog (W k)) (W k)) .marks .halt ≡ true
     last-halt k e =
         let x = did-next prog w N did k (omega arith) in
-        un-not _ (sym (ap (λ (v : Arch). not ((effectAt prog (instructionAt prog v) v) .halt))
+        un-not _ (sym (ap (λ (v : Arch). not ((effectAt prog (instructionAt prog v) v) .marks .halt))
         (did-walk prog w N did k (omega arith))) ∙ sym (x .on) ∙ ap (λ (n : ℕ). (machine prog w n) .runs) e ∙ down)
 
     -- so what stands behind MEM/WB, where that does not halt, is one of the N
@@ -107,9 +109,10 @@ module _ (prog : Program) (w : Arch) where
         fine-load k h (sym (ld-at prog (W k)) ∙ ap (λ (x : ExMem). loads x) (sym e) ∙ both-r (l .valid) _ z)
 
     -- so a load wanted has one
-    pub not-dry : (s : PipelineCpu) (t : ℕ) (asked : List Request) (l : List ℕ) (k n₁ n₂ : ℕ)
-        → Live prog w s t asked l k n₁ n₂ → k < N → wantLoad s ≡ true → isEmpty l ≡ false
-    not-dry s t asked l k n₁ n₂ lv h e =
+    pub has-answer : (s : PipelineCpu) (t : ℕ) (asked : List Request) (l : List ℕ) (k n₁ n₂ : ℕ)
+        → Live prog w s t asked l k n₁ n₂ → k < N → wantLoad (s .stages) ≡ true → isEmpty l ≡ false
+    has-answer s t asked l k n₁ n₂ lv h e =
         let x = want-is s e in
         ap (λ (y : List ℕ). isEmpty y) (lv .answers)
-        ∙ xm-fine (s .«ex_mem») t n₁ n₂ (lv .«ex_mem») (next-in (s .«mem_wb») t k n₁ (lv .«mem_wb») h (x .0)) (x .1)
+        ∙ xm-fine (s .stages .«ex_mem») t n₁ n₂ (lv .«ex_mem»)
+        (next-in (s .stages .«mem_wb») t k n₁ (lv .«mem_wb») h (x .0)) (x .1)

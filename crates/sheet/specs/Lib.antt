@@ -1,4 +1,3 @@
-pub mod Fair
 pub mod Names
 pub mod Records
 pub mod Sheet

@@ -4,7 +4,7 @@ use lib.Dec.{eqb, ltb}
 use lib.ListN.{getD, length}
 use mathlib.Core.Bool.{Bool, _||_, cond, not}
 use mathlib.Core.List.{List}
-use Rattle.isa.specs.Operands.{okOperands, operandsN}
+use Rattle.isa.specs.Refusals.{instructionCode}
 use Rattle.sheet.specs.Names.{Instruction, Line, Mode, NoRecord, Normal, Pair, RawInstr, RawNormal, RawShort}
 use Rattle.sheet.specs.Names.{Record, Short, Unknown}
 use Rattle.sheet.specs.Records.{recordOf}
@@ -42,10 +42,10 @@ offerIn (Pair h g) k m = pairOffer h g k m
 unfoldable pub offerAt : List ℕ → ℕ → Mode → RawInstr
 offerAt l p m = offerIn (recordAt l (p / 4)) (p % 4) m
 
--- per record 5: no such command, or an unused byte not zero; 1: a Normal register above 31; 2: MFSR
+-- per record 5: no such command, or an unused byte not zero; else the code of its instruction
 unfoldable pub recordCode : Record → ℕ
 recordCode NoRecord = 5
-recordCode (Line i) = cond (okOperands (operandsN i)) (cond ((operandsN i) .«is_mfsr») 2 0) 1
+recordCode (Line i) = instructionCode i
 recordCode (Pair h g) = 0
 
 -- the code of record k

@@ -4,10 +4,10 @@ use Rattle.sheet.specs.Names.{EndRefused, Ends, Halted, Loads, Spent, Ti
 
 -- not running, halted; limit used up, spent; 12 or 13, refused; a load wanted and no answer left, loads; else one tick
 unfoldable pub turnBy : Bool → Bool → Bool → Bool → Bool → Turn
-turnBy running spent stuck full dry =
+turnBy running spent faulty full unanswered =
     cond (not running) (Ends Halted)
     (cond spent (Ends Spent)
-    (cond stuck (Ends (EndRefused 12))
+    (cond faulty (Ends (EndRefused 12))
     (cond full (Ends (EndRefused 13))
-    (cond dry (Ends Loads)
+    (cond unanswered (Ends Loads)
     Ticks))))

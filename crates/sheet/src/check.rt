@@ -1,28 +1,17 @@
 // The check of a whole sheet.
 ghost use mathlib.Core.Path.{_≡_};
-ghost use Rattle.sheet.specs.Sheet.{recordCode, firstCode, badLength, sheetCode};
+ghost use Rattle.sheet.specs.Sheet.{badLength, firstCode, recordCode, sheetCode};
 use crate::Record;
 use crate::offer::record_at;
-use isa::Decoded;
 
 impl Record {
-    // 5, 1 or 2: no such command or an unused byte not zero, a register above 31, MFSR.
+    // 5: no such command, or an unused byte not zero; else the code of its instruction.
     fn code(self) -> u32
         ensures { λ r. ⌜ r ≡ recordCode self ⌝ }
     {
         match self {
             Record::None => 5,
-            Record::Line(i) => {
-                let d = Decoded::Normal(i);
-                let o = d.operands();
-                if o.in_bounds() {
-                    if o.is_mfsr {
-                        return 2;
-                    }
-                    return 0;
-                }
-                1
-            }
+            Record::Line(i) => i.code(),
             Record::Pair(_, _) => 0,
         }
     }

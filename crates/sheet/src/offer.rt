@@ -1,6 +1,6 @@
 // What a sheet offers a fetch.
 ghost use mathlib.Core.Path.{_≡_};
-ghost use Rattle.sheet.specs.Sheet.{recordAt, unknownOf, lineOffer, pairOffer, offerIn, offerAt};
+ghost use Rattle.sheet.specs.Sheet.{lineOffer, offerAt, offerIn, pairOffer, recordAt, unknownOf};
 use crate::Record;
 use crate::records::record_of;
 use isa::Instruction;

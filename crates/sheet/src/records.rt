@@ -1,8 +1,8 @@
 // A record's instruction, by its command byte and four operand bytes.
 ghost use mathlib.Core.Path.{_≡_};
 ghost use Rattle.isa.specs.Short.{lowBits};
-ghost use Rattle.sheet.specs.Records.{both, zeros, lineIf, plainOf, threeOf, offsetOf, halfOf};
-ghost use Rattle.sheet.specs.Records.{jumpOf, farOf, recordOf};
+ghost use Rattle.sheet.specs.Records.{both, farOf, halfOf, jumpOf, lineIf, offsetOf, plainOf, recordOf, threeOf};
+ghost use Rattle.sheet.specs.Records.{zeros};
 use crate::Record;
 use isa::Instruction;
 

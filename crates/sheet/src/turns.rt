@@ -5,8 +5,8 @@ use crate::End;
 use crate::Turn;
 
 // A turn by five tests: running, limit used up, 12, 13, a load wanted and no answer left.
-pub fn turn_by(running: bool, spent: bool, stuck: bool, full: bool, dry: bool) -> Turn
-    ensures { λ r. ⌜ r ≡ turnBy running spent stuck full dry ⌝ }
+pub fn turn_by(running: bool, spent: bool, faulty: bool, full: bool, unanswered: bool) -> Turn
+    ensures { λ r. ⌜ r ≡ turnBy running spent faulty full unanswered ⌝ }
 {
     if !running {
         return Turn::Ends(End::Halted);
@@ -14,13 +14,13 @@ pub fn turn_by(running: bool, spent: bool, stuck: bool, full: bool, dry: bool) -
     if spent {
         return Turn::Ends(End::Spent);
     }
-    if stuck {
+    if faulty {
         return Turn::Ends(End::Refused(12));
     }
     if full {
         return Turn::Ends(End::Refused(13));
     }
-    if dry {
+    if unanswered {
         return Turn::Ends(End::Loads);
     }
     Turn::Ticks

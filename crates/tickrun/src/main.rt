@@ -35,11 +35,12 @@ fn report(out: &mut [u8], ran: Ran) -> usize {
     let end = ran.end;
     let s = ran.state;
     let reg = s.reg;
+    let counts = s.counts;
     let a = put_end(out, end);
     let b = put_line(out, a, b"ticks", ran.ticks as u64);
-    let c = put_line(out, b, b"retired", s.instructions_executed);
-    let d = put_line(out, c, b"stalls", s.stall_cycles);
-    let e = put_line(out, d, b"flushes", s.flush_events);
+    let c = put_line(out, b, b"retired", counts.instructions_executed);
+    let d = put_line(out, c, b"stalls", counts.stall_cycles);
+    let e = put_line(out, d, b"flushes", counts.flush_events);
     put_registers(out, e, &reg)
 }
 
@@ -50,7 +51,7 @@ fn write(out: &[u8], to: usize) {
     }
 }
 
-// Runs what standard input holds, from document 01's start, without load answers.
+// Runs what standard input holds, from the start of RULES 20.1, without load answers.
 fn play(buf: &mut [u8], out: &mut [u8]) {
     let n = io::read_full(libc::STDIN_FILENO, buf);
     let start = PipelineCpu::start([0u32; 32], 0, Mode::Normal, false, 0);

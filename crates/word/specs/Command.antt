@@ -2,8 +2,8 @@
 use Prim.Native.Nat.{ℕ}
 use mathlib.Core.Bool.{cond, _&&_}
 use lib.Dec.{eqb, leb}
-use Rattle.word.specs.Words.{add32, sub32, and32, or32, xor32, sll32, srl32, sra32}
-use Rattle.word.specs.Words.{slt32, sltu32, mul32, mulh32, div32, divu32, mod32}
+use Rattle.word.specs.Words.{add32, and32, div32, divu32, mod32, mul32, mulh32, or32, sll32, slt32, sltu32, sra32}
+use Rattle.word.specs.Words.{srl32, sub32, xor32}
 
 -- ADD SUB AND OR XOR SLL SRL SLA SRA SLT SLTU MUL MULH DIV DIVU MOD
 unfoldable pub arithmetic32 : ℕ → ℕ → ℕ → ℕ

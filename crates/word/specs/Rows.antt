@@ -1,7 +1,7 @@
--- The starred rows of arithmetic: one claim about the definitions, proved in proofs/Rows.antt.
+-- The rows of arithmetic, RULES 22.2: one claim about the definitions, proved in proofs/Rows.antt.
 use mathlib.Core.Path.{_≡_}
 use lib.IntN.{negsuc}
-use Rattle.word.specs.Words.{wordOf, div32, mod32, mulh32, sra32}
+use Rattle.word.specs.Words.{div32, mod32, mulh32, sra32, wordOf}
 
 pub record Rows : Type 0 where
   -- -7 DIV 2 is -3

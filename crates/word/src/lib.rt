@@ -17,10 +17,10 @@
 ghost use mathlib.Core.Path.{_≡_};
 ghost use Prim.Native.Nat.{_<_, _^_};
 ghost use lib.Signed.{mag};
-ghost use Rattle.word.specs.Words.{signed, wordOf, add32, sub32, offset32, and32, or32, xor32, sll32, srl32};
-ghost use Rattle.word.specs.Words.{sra32, slt32, sltu32, mul32, mulh32, div32, divu32, mod32};
-ghost use Rattle.word.specs.Words.{ldil32, ldih32, cut32};
 ghost use Rattle.word.specs.Command.{arithmetic32, command32};
+ghost use Rattle.word.specs.Words.{add32, and32, cut32, div32, divu32, ldih32, ldil32, mod32, mul32, mulh32};
+ghost use Rattle.word.specs.Words.{offset32, or32, signed, sll32, slt32, sltu32, sra32, srl32, sub32, wordOf};
+ghost use Rattle.word.specs.Words.{xor32};
 
 // A word as a signed number.
 fn sext(x: u32) -> i64

@@ -1,4 +1,4 @@
-//! The expected answer to each case: the original's, behind document 01's refusals.
+//! The expected answer to each case: the original's, behind the refusals of RULES 19.
 
 use crate::buffers::Buffers;
 use crate::case::Case;

@@ -1,4 +1,4 @@
-//! Document 01's refusals, read by themselves; the original refuses nothing.
+//! The refusals of RULES 19, read by themselves; the original refuses nothing.
 
 use crate::cpu_pipeline::harness::Numbers;
 use crate::rows::{
@@ -7,7 +7,7 @@ use crate::rows::{
 
 /// Accepted.
 pub const NONE: u32 = 0;
-/// The numbers that document 01 gives the refusals.
+/// The numbers of the refusals, RULES 19.1.
 pub const NORMAL_REGISTER: u32 = 1;
 pub const OFFERED_MFSR: u32 = 2;
 pub const UNWANTED_OFFER: u32 = 3;

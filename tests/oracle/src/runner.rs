@@ -1,4 +1,4 @@
-//! The runner of the step sheet, by a reading of document 01 of the harness's own.
+//! The runner of the step sheet, by a reading of RULES 18 of the harness's own.
 
 mod rules;
 mod run;

@@ -1,4 +1,4 @@
-//! The step sheet, by a reading of document 01 of the harness's own.
+//! The step sheet, by a reading of RULES 16 of the harness's own.
 
 mod command;
 mod offer;

@@ -1,11 +1,11 @@
-//! What document 01's program tickrun prints.
+//! What the program tickrun prints, RULES 20.
 
 use crate::cpu_pipeline::harness::original::Original;
 use crate::rows::{Begin, NORMAL, State};
 use crate::runner::{self, DOCUMENT_01, End, HIGHEST_LIMIT, Run, Task};
 use std::io::{Read, Result, Write};
 
-/// The start that document 01 gives the program.
+/// The start of the program, RULES 20.1.
 pub const BEGIN: Begin = Begin {
     reg: [0; 32],
     pc: 0,

@@ -18,16 +18,16 @@ code-spec = tie.close (tie.spec
     ))
     (λ c κs. search needs)
     (λ c. rw (
-      sym (c .before .before .before .before .check .ensures),
-      le-ltb 0 _ (c .before .before .before .if1 .left),
-      le-ltb 1000000 _ (c .before .before .if2 .left),
-      sym (c .before .is-broken .ensures),
+      sym (c .before .before .before .before .before .check .ensures),
+      le-ltb 0 _ (c .before .before .before .before .if1 .left),
+      le-ltb 1000000 _ (c .before .before .before .if2 .left),
+      sym (c .before .out-of-bounds .ensures),
       c .if3 .taken,
     ))
     (λ c. rw (
-      sym (c .before .before .before .before .check .ensures),
-      le-ltb 0 _ (c .before .before .before .if1 .left),
-      le-ltb 1000000 _ (c .before .before .if2 .left),
-      sym (c .before .is-broken .ensures),
+      sym (c .before .before .before .before .before .check .ensures),
+      le-ltb 0 _ (c .before .before .before .before .if1 .left),
+      le-ltb 1000000 _ (c .before .before .before .if2 .left),
+      sym (c .before .out-of-bounds .ensures),
       c .if3 .left,
     )))

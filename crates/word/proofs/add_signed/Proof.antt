@@ -2,7 +2,7 @@
 use borrow.Author.Needs.{needs}
 use mathlib.Core.Path.{ap, _∙_}
 use mir.Facts.{toZ-ofZ}
-use Rattle.word.specs.Words.{wordOf, add32, offset32}
+use Rattle.word.specs.Words.{add32, offset32, wordOf}
 use Rattle.word.proofs.add_signed.Statement.{statement}
 use Rattle.word.proofs.add_signed.Tie as tie
 

@@ -2,8 +2,8 @@
 use borrow.Author.Tests.{eq-eqb, ne-eqb}
 use borrow.Author.Needs.{needs}
 use mathlib.Core.Path.{ap, _∙_}
-use Rattle.word.proofs.Signed.{quot-ok, quot-held, quot-lt}
-use Rattle.word.specs.Words.{wordOf, div32}
+use Rattle.word.proofs.Signed.{quot-held, quot-lt, quot-ok}
+use Rattle.word.specs.Words.{div32, wordOf}
 use Rattle.word.proofs.div.Statement.{statement}
 use Rattle.word.proofs.div.Tie as tie
 

@@ -5,8 +5,8 @@ use native.Mathlib.Omega.{arith}
 use borrow.Author.Needs.{sfits-of}
 use lib.IntN.{natAbs, pos}
 use lib.Signed.{ltZ}
-use Rattle.word.specs.Words.{wordOf}
 use Rattle.word.proofs.Signed.{back, low-neg, low-pos, word-lt}
+use Rattle.word.specs.Words.{wordOf}
 use Rattle.word.proofs.low.Statement.{statement}
 use Rattle.word.proofs.low.Tie as tie
 use Rattle.word.proofs.low.Reads as reads

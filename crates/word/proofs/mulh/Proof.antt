@@ -2,7 +2,7 @@
 use borrow.Author.Needs.{needs}
 use mathlib.Core.Path.{ap, _∙_}
 use Rattle.word.proofs.Signed.{mul-ok, mulh-held, mulh-lt}
-use Rattle.word.specs.Words.{wordOf, mulh32}
+use Rattle.word.specs.Words.{mulh32, wordOf}
 use Rattle.word.proofs.mulh.Statement.{statement}
 use Rattle.word.proofs.mulh.Tie as tie
 

@@ -1,7 +1,7 @@
 -- `word::of_signed` meets its contract. Assumes nothing.
 use native.Mathlib.Omega.{arith}
 use mathlib.Core.Path.{ap, _∙_}
-use Rattle.word.proofs.Signed.{off-ok, off-held}
+use Rattle.word.proofs.Signed.{off-held, off-ok}
 use Rattle.word.specs.Words.{wordOf}
 use Rattle.word.proofs.of_signed.Statement.{statement}
 use Rattle.word.proofs.of_signed.Tie as tie

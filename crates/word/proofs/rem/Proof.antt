@@ -3,7 +3,7 @@ use borrow.Author.Tests.{eq-eqb, ne-eqb}
 use borrow.Author.Needs.{needs}
 use mathlib.Core.Path.{ap, _∙_}
 use Rattle.word.proofs.Signed.{quot-ok, rem-held, rem-lt}
-use Rattle.word.specs.Words.{wordOf, mod32}
+use Rattle.word.specs.Words.{mod32, wordOf}
 use Rattle.word.proofs.rem.Statement.{statement}
 use Rattle.word.proofs.rem.Tie as tie
 

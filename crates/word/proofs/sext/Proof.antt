@@ -1,7 +1,7 @@
 -- `word::sext` meets its contract. Assumes nothing.
 use borrow.Author.Needs.{needs, sfits-of}
 use native.Mathlib.Omega.{arith}
-use Rattle.word.proofs.Signed.{back, mag-signed, small, high}
+use Rattle.word.proofs.Signed.{back, high, mag-signed, small}
 use Rattle.word.proofs.sext.Statement.{statement}
 use Rattle.word.proofs.sext.Tie as tie
 

@@ -4,8 +4,8 @@ use native.Mathlib.Omega.{arith}
 use mathlib.Core.Path.{ap, _∙_}
 use Prim.Native.Nat.{_^_, _%_}
 use lib.Signed.{mag-shr}
-use Rattle.word.proofs.Signed.{shr-held, mag-signed}
-use Rattle.word.specs.Words.{signed, wordOf, sra32}
+use Rattle.word.proofs.Signed.{mag-signed, shr-held}
+use Rattle.word.specs.Words.{signed, sra32, wordOf}
 use Rattle.word.proofs.sra.Statement.{statement}
 use Rattle.word.proofs.sra.Tie as tie
 

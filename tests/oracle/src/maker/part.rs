@@ -91,7 +91,7 @@ impl Maker {
         Case::Hazard(latch, sources[0], sources[1])
     }
 
-    /// Makes a state to retire from, but none that document 01 leaves open.
+    /// Makes a state to retire from, but none where RULES 13 departs from the original.
     pub fn retire(&mut self) -> Case {
         let mut state = self.state();
         if !state.running && refusals::holds_what_never_retires(&state.mem_wb) {

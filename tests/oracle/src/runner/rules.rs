@@ -1,4 +1,4 @@
-//! Document 01's rules of the sheet and the runner.
+//! RULES 16 to 18: the sheet and the runner.
 
 use super::{End, Run, Task};
 use crate::refusals::{self, BAD_LENGTH, LIMIT_TOO_HIGH, NONE, OUT_OF_BOUNDS};
@@ -36,7 +36,7 @@ pub struct Rules {
     pub report: fn(&State, &mut Run),
 }
 
-/// The rules as document 01 has them.
+/// The rules as RULES has them.
 pub const DOCUMENT_01: Rules = Rules {
     length_breaks: sheet::length_breaks,
     record: sheet::refuse,

@@ -3,7 +3,7 @@ use borrow.Author.Needs.{needs}
 use Prim.Native.Nat.{_%_}
 use native.Mathlib.Omega.{arith}
 use mir.Syntax.{w16}
-use Rattle.isa.proofs.LowBits.{wide-ok, cut-ok}
+use Rattle.isa.proofs.LowBits.{cut-ok, wide-ok}
 use Rattle.compare.proofs.number.to_signed.Statement.{statement}
 use Rattle.compare.proofs.number.to_signed.Tie as tie
 

@@ -16,16 +16,7 @@ abbrev μ-loop : tie.MeasureT-loop
 
 pub run-of-spec : {M : Type 1} → statement M
 run-of-spec = tie.close (tie.spec Inv-loop μ-loop
-    (λ c. search needs)
-    (λ c. search needs)
-    (λ c κs. search needs)
-    (λ c. search needs)
-    (λ c. search needs)
-    (λ c. search needs)
-    (λ c. search needs)
-    (λ c κs. search needs)
-    (λ c. search needs)
-    (λ c. search needs)
-    (λ c. search needs)
-    (λ c. search needs)
+    (λ c. search needs) (λ c. search needs) (λ c κs. search needs) (λ c. search needs) (λ c. search needs)
+    (λ c. search needs) (λ c. search needs) (λ c κs. search needs) (λ c. search needs) (λ c. search needs)
+    (λ c. search needs) (λ c. search needs)
     (λ c. ⊎-elim (λ w. omega (arith, ltb-false)) (λ w. omega arith) (c .loop-test .came)))

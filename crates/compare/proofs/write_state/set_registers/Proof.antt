@@ -12,11 +12,6 @@ abbrev μ-loop : tie.MeasureT-loop
 
 pub set-registers-spec : {M : Type 1} → statement M
 set-registers-spec = tie.close (tie.spec Inv-loop μ-loop
-    (λ c. search needs)
-    (λ c. search needs)
-    (λ c. search needs)
-    (λ c κs. search needs)
-    (λ c. search needs)
-    (λ c. search needs)
-    (λ c. search needs)
+    (λ c. search needs) (λ c. search needs) (λ c. search needs) (λ c κs. search needs) (λ c. search needs)
+    (λ c. search needs) (λ c. search needs)
     (λ c. search needs))

@@ -5,13 +5,13 @@ use Rattle.isa.specs.Names.{DecShort, ShortInstruction, sAdd, sAddi, sBn
 use Rattle.isa.specs.Names.{sSt, sUnknown}
 use Rattle.isa.specs.Operands.{bare, binary, branching, loading, operandsOf, operandsS, plain, reads, storing}
 use Rattle.isa.specs.Operands.{unary, writes}
-use Rattle.isa.specs.Waits.{waits, waitsBy}
+use Rattle.isa.specs.Waits.{waits}
 use Rattle.isa.proofs.Decoded.waits.Statement.{statement}
 use Rattle.isa.proofs.Decoded.waits.Tie as tie
 
 -- no Short instruction waits
 short : (i : ShortInstruction) → 0 ≡ waits (DecShort i)
-unfolding waits waitsBy operandsOf operandsS plain bare writes unary binary reads loading storing branching
+unfolding waits operandsOf operandsS plain bare writes unary binary reads loading storing branching
 short i = elim i [
   | sMov a b ↦ refl
   | sAdd a b d ↦ refl

@@ -5,14 +5,14 @@ use denote.Enum.Declared.{tagOf}
 use mathlib.Core.List.{List, [], _∷_}
 use mathlib.Core.Path.{_≡_, refl}
 use types.Run.{OneOf, miss}
-use Rattle.isa.specs.Names.{Add, Addi, And, Beq, Bne, Cpuid, Div, Divu, Halt, Iret, Jal, Jalr, Jalrs, Jals, Jmp}
-use Rattle.isa.specs.Names.{Jmps, Jr, Jrs, Ld, Ldb, Ldh, Ldih, Ldil, Mfsr, Mod, Mtsr, Mul, Mulh, Nop, Or, Sla}
-use Rattle.isa.specs.Names.{Sll, Slt, Sltu, Sra, Srl, St, Stb, Sth, Sub, Syscall, Unknown, Xor, DecNormal}
-use Rattle.isa.specs.Names.{Instruction}
+use Rattle.isa.proofs.Instruction.{the-type}
+use Rattle.isa.specs.Names.{Add, Addi, And, Beq, Bne, Cpuid, DecNormal, Div, Divu, Halt, Instruction, Iret, Jal}
+use Rattle.isa.specs.Names.{Jalr, Jalrs, Jals, Jmp, Jmps, Jr, Jrs, Ld, Ldb, Ldh, Ldih, Ldil, Mfsr, Mod, Mtsr, Mul}
+use Rattle.isa.specs.Names.{Mulh, Nop, Or, Sla, Sll, Slt, Sltu, Sra, Srl, St, Stb, Sth, Sub, Syscall, Unknown}
+use Rattle.isa.specs.Names.{Xor}
 use Rattle.isa.specs.Operands.{bare, binary, branching, loading, operandsN, operandsOf, plain, reads, special}
 use Rattle.isa.specs.Operands.{storing, unary, writes}
-use Rattle.isa.specs.Waits.{waits, waitsBy}
-use Rattle.isa.proofs.Instruction.{the-type}
+use Rattle.isa.specs.Waits.{waits}
 use Rattle.isa.proofs.Instruction.waits.Statement.{statement}
 use Rattle.isa.proofs.Instruction.waits.Tie as tie
 
@@ -24,7 +24,7 @@ others =
 
 -- they wait for nothing
 rest : (i : Instruction) → OneOf others (tagOf the-type i) → 0 ≡ waits (DecNormal i)
-unfolding others waits waitsBy operandsOf operandsN plain bare writes unary binary reads loading storing branching
+unfolding others waits operandsOf operandsN plain bare writes unary binary reads loading storing branching
     special
 rest i = elim i [
   | Nop ↦ λ k. refl
@@ -73,8 +73,10 @@ rest i = elim i [
 ]
 
 pub waits-spec : {M : Type 1} → statement M
-unfolding others waits waitsBy operandsOf operandsN plain binary
+unfolding others waits operandsOf operandsN plain binary
 waits-spec = tie.close (tie.spec
+    (λ c. search needs) (λ c. search needs) (λ c. search needs) (λ c. search needs) (λ c. search needs)
+    (λ c. search needs) (λ c. search needs) (λ c. search needs) (λ c. search needs) (λ c. search needs)
     (λ c. search needs) (λ c. search needs) (λ c. search needs) (λ c. search needs) (λ c. search needs)
     (λ c. rw (c .enum-told .given .1))
     (λ c. rw (c .enum-told2 .given .1))

@@ -8,7 +8,7 @@ use lib.Dec.{ltb}
 use mir.Facts.{toZ-ofZ}
 use mir.Syntax.{w8, w16}
 use Rattle.isa.specs.Names.{sRet, sUnknown}
-use Rattle.isa.specs.Short.{shortBy, decodeShort}
+use Rattle.isa.specs.Short.{decodeShort, shortBy}
 use Rattle.isa.proofs.ShortInstruction.decode_short.Statement.{statement}
 use Rattle.isa.proofs.ShortInstruction.decode_short.Tie as tie
 

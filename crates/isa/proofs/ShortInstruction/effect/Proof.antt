@@ -1,7 +1,7 @@
 -- `isa::effect` meets its contract, arm by arm. Assumes nothing.
 use borrow.Author.Needs.{needs, sfits-of}
-use Rattle.isa.specs.Effect.{effectS}
 use Rattle.isa.proofs.Widen.{widened}
+use Rattle.isa.specs.Effect.{effectS}
 use Rattle.isa.proofs.ShortInstruction.effect.Statement.{statement}
 use Rattle.isa.proofs.ShortInstruction.effect.Tie as tie
 

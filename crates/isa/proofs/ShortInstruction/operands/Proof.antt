@@ -1,7 +1,7 @@
 -- `isa::operands` meets its contract, arm by arm. Assumes nothing.
 use borrow.Author.Needs.{needs, sfits-of}
-use Rattle.isa.specs.Operands.{operandsS}
 use Rattle.isa.proofs.Widen.{widened}
+use Rattle.isa.specs.Operands.{operandsS}
 use Rattle.isa.proofs.ShortInstruction.operands.Statement.{statement}
 use Rattle.isa.proofs.ShortInstruction.operands.Tie as tie
 

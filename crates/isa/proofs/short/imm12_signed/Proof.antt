@@ -6,7 +6,7 @@ use native.Mathlib.Omega.{arith}
 use mir.Syntax.{w16}
 use mir.Facts.{toZ-pos}
 use borrow.Author.Tests.{lt-ltb, le-ltb}
-use Rattle.isa.proofs.LowBits.{wide-ok, cut-ok, cut}
+use Rattle.isa.proofs.LowBits.{cut, cut-ok, wide-ok}
 use Rattle.isa.specs.Short.{lowBits}
 use Rattle.isa.proofs.short.imm12_signed.Statement.{statement}
 use Rattle.isa.proofs.short.imm12_signed.Tie as tie

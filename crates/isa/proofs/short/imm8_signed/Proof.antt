@@ -5,7 +5,7 @@ use mathlib.Core.Path.{_∙_, sym}
 use native.Mathlib.Omega.{arith}
 use mir.Syntax.{w8}
 use borrow.Author.Tests.{lt-ltb, le-ltb}
-use Rattle.isa.proofs.LowBits.{wide-ok, cut-ok, cut}
+use Rattle.isa.proofs.LowBits.{cut, cut-ok, wide-ok}
 use Rattle.isa.specs.Short.{lowBits}
 use Rattle.isa.proofs.short.imm8_signed.Statement.{statement}
 use Rattle.isa.proofs.short.imm8_signed.Tie as tie

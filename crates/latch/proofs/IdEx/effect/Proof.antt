@@ -10,7 +10,7 @@ unfolding effectIn
 effect-spec = tie.close (tie.spec
     (λ c κs. search needs) (λ c κs. search needs)
     (λ c. simp (
-      c .raised .ensures,
+      c .raises .ensures,
       c .before .if1 .taken,
       sym (c .before .before .is-some .ensures) ∙
           c .before .if1 .taken,

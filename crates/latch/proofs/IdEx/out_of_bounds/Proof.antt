@@ -8,4 +8,4 @@ pub out-of-bounds-spec : {M : Type 1} → statement M
 unfolding badIdEx
 out-of-bounds-spec = tie.close (tie.spec
     (λ c κs. search needs) (λ c κs. search needs)
-    (λ c. rw (c .in-bounds .ensures, c .before .bad-decoded .ensures)))
+    (λ c. rw (c .in-bounds .ensures, c .before .code .ensures)))

@@ -8,4 +8,4 @@ pub out-of-bounds-spec : {M : Type 1} → statement M
 unfolding badIfId
 out-of-bounds-spec = tie.close (tie.spec
     (λ c κs. search needs)
-    (λ c. rw (c .bad-raw .ensures)))
+    (λ c. rw (c .code .ensures)))

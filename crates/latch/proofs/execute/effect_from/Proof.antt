@@ -8,4 +8,4 @@ pub effect-from-spec : {M : Type 1} → statement M
 unfolding effectFrom
 effect-from-spec = tie.close (tie.spec
     (λ c κs. search needs) (λ c κs. search needs) (λ c κs. search needs)
-    (λ c. rw (c .effect .ensures, c .before .operand-b .ensures, c .before .before .forwarded .ensures)))
+    (λ c. rw (c .effect .ensures, c .before .operand-b .ensures, c .before .before .operand .ensures)))

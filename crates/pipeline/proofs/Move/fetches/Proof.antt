@@ -6,11 +6,4 @@ use Rattle.pipeline.proofs.Move.fetches.Tie as tie
 
 pub fetches-spec : {M : Type 1} → statement M
 unfolding fetches
-fetches-spec = tie.close (tie.spec
-    (λ c. search needs) (λ c. search needs) (λ c. search needs) (λ c. search needs)
-    (λ c. search needs)
-    (λ c. simp (c .enum-told .given .1, c .before .match .keys1))
-    (λ c. simp (c .enum-told2 .given .1, c .before .match .keys2))
-    (λ c. simp (c .enum-told3 .given .1, c .before .match .keys3))
-    (λ c. simp (c .enum-told4 .given .1, c .before .match .keys4))
-    (λ c. simp (c .enum-told5 .given .1, c .before .match .keys5)))
+fetches-spec = tie.close (tie.spec (λ c κs. search needs) (λ c. rw (c .stalls .ensures)))

@@ -9,11 +9,11 @@ pub decode-id-spec : {M : Type 1} → statement M
 unfolding decodePart
 decode-id-spec = tie.close (tie.spec
     (λ c κs. search needs) (λ c κs. search needs)
-    (λ c. rw (sym (c .before .before .is-broken .ensures), sym (c .before .out-of-bounds .ensures), c .if1 .taken))
+    (λ c. rw (sym (c .before .before .out-of-bounds .ensures), sym (c .before .out-of-bounds2 .ensures), c .if1 .taken))
     (λ c κs. search needs)
     (λ c. rw (
-      c .decode-id .ensures,
-      sym (c .before .before .before .before .before .is-broken .ensures),
-      sym (c .before .before .before .before .out-of-bounds .ensures),
+      c .decode .ensures,
+      sym (c .before .before .before .before .before .out-of-bounds .ensures),
+      sym (c .before .before .before .before .out-of-bounds2 .ensures),
       c .before .before .before .if1 .left,
     )))

@@ -1,6 +1,6 @@
 -- `pipeline::PipelineCpu::refused` meets its contract. Assumes nothing.
 use mathlib.Core.Path.{refl}
-use Rattle.pipeline.specs.Codes.{refusedWith}
+use Rattle.pipeline.specs.Inner.{refusedWith}
 use Rattle.pipeline.proofs.PipelineCpu.refused.Statement.{statement}
 use Rattle.pipeline.proofs.PipelineCpu.refused.Tie as tie
 

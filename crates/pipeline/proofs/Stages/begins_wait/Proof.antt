@@ -1,6 +1,6 @@
 -- `pipeline::Stages::begins_wait` meets its contract. Assumes nothing.
 use borrow.Author.Needs.{needs}
-use Rattle.pipeline.specs.Stages.{beginsWait}
+use Rattle.pipeline.specs.Move.{beginsWait}
 use Rattle.pipeline.proofs.Stages.begins_wait.Statement.{statement}
 use Rattle.pipeline.proofs.Stages.begins_wait.Tie as tie
 

@@ -1,6 +1,6 @@
 -- `pipeline::Stages::fetches` meets its contract. Assumes nothing.
 use borrow.Author.Needs.{needs}
-use Rattle.pipeline.specs.Codes.{planFetches}
+use Rattle.pipeline.specs.Plans.{planFetches}
 use Rattle.pipeline.proofs.Stages.fetches.Statement.{statement}
 use Rattle.pipeline.proofs.Stages.fetches.Tie as tie
 

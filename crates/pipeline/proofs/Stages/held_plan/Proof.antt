@@ -1,6 +1,6 @@
 -- `pipeline::Stages::held_plan` meets its contract. Assumes nothing.
 use borrow.Author.Needs.{needs}
-use Rattle.pipeline.specs.Stages.{heldPlan}
+use Rattle.pipeline.specs.Inner.{heldPlan}
 use Rattle.pipeline.proofs.Stages.held_plan.Statement.{statement}
 use Rattle.pipeline.proofs.Stages.held_plan.Tie as tie
 

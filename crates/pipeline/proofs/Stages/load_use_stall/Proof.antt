@@ -1,23 +1,21 @@
 -- `pipeline::Stages::load_use_stall` meets its contract. Assumes nothing.
 use borrow.Author.Needs.{needs}
-use Rattle.pipeline.specs.Advance.{stalling}
-use Rattle.pipeline.specs.Stages.{Becomes, shifted, view}
+use Rattle.pipeline.specs.Advance.{advanceBy, idExAfter, ifIdAfter, placeAfter, waitAfter}
+use Rattle.pipeline.specs.Fetch.{placeOr}
+use Rattle.pipeline.specs.Move.{isWait}
 use Rattle.pipeline.proofs.Stages.load_use_stall.Statement.{statement}
 use Rattle.pipeline.proofs.Stages.load_use_stall.Tie as tie
 
 pub load-use-stall-spec : {M : Type 1} → statement M
-unfolding Becomes view stalling shifted
+unfolding advanceBy idExAfter ifIdAfter isWait waitAfter placeAfter placeOr
 load-use-stall-spec = tie.close (tie.spec
-    (λ c κs. search needs) (λ c κs. search needs) (λ c. search needs) (λ c κs. search needs)
-    (λ c κs. search needs) (λ c κs. search needs) (λ c κs. search needs) (λ c κs. search needs)
+    (λ c κs. search needs) (λ c κs. search needs) (λ c κs. search needs) (λ c κs. search needs) (λ c κs. search needs)
     (λ c κs. search needs)
-    (λ c rs. simp (
-      c .sel .ensures,
-      c .before .shift .ensures,
-      c .before .before .invalid .ensures,
-      c .before .before .before .stalled .ensures,
+    (λ c. rw (
+      c .proceed .ensures,
+      c .before .invalid .ensures,
+      c .before .before .stalled .ensures,
+      c .before .before .before .is-to .ensures,
       c .before .before .before .before .mode-or .ensures,
       c .before .before .before .before .before .target-or .ensures,
-      c .before .before .before .before .before .before .before .before .before .more .ensures,
-      c .before .before .before .before .before .before .before .before .before .before .is-to .ensures,
     )))

@@ -1,11 +1,11 @@
 -- `pipeline::Stages::loads` meets its contract. Assumes nothing.
 use borrow.Author.Needs.{needs}
-use Rattle.pipeline.specs.Codes.{stageLoads}
+use Rattle.pipeline.specs.Ask.{loadsIn}
 use Rattle.pipeline.proofs.Stages.loads.Statement.{statement}
 use Rattle.pipeline.proofs.Stages.loads.Tie as tie
 
 pub loads-spec : {M : Type 1} → statement M
-unfolding stageLoads
+unfolding loadsIn
 loads-spec = tie.close (tie.spec
     (λ c κs. search needs)
     (λ c. rw (c .before .loads .ensures)))

@@ -1,15 +1,12 @@
 -- `pipeline::Stages::moved_plan` meets its contract. Assumes nothing.
 use borrow.Author.Needs.{needs}
-use Rattle.latch.specs.Execute.{effectFrom}
-use Rattle.latch.specs.Forwarding.{forwardFrom}
-use Rattle.pipeline.specs.Execute.{effectFor, executed, operandB, redirectOf}
-use Rattle.pipeline.specs.Forwarding.{forwarded}
-use Rattle.pipeline.specs.Stages.{movedPlan, view}
+use Rattle.pipeline.specs.Execute.{effectFor, executed, redirectOf}
+use Rattle.pipeline.specs.Inner.{movedPlan}
 use Rattle.pipeline.proofs.Stages.moved_plan.Statement.{statement}
 use Rattle.pipeline.proofs.Stages.moved_plan.Tie as tie
 
 pub moved-plan-spec : {M : Type 1} → statement M
-unfolding movedPlan redirectOf executed view effectFor effectFrom forwarded operandB forwardFrom
+unfolding movedPlan redirectOf executed effectFor
 moved-plan-spec = tie.close (tie.spec
     (λ c κs. search needs) (λ c κs. search needs) (λ c κs. search needs) (λ c κs. search needs)
     (λ c κs. search needs)

@@ -1,19 +1,18 @@
 -- `pipeline::Stages::proceed` meets its contract. Assumes nothing.
 use borrow.Author.Needs.{needs}
-use Rattle.pipeline.specs.Advance.{proceeding}
-use Rattle.pipeline.specs.Stages.{Becomes, shifted, view}
+use Rattle.pipeline.specs.Advance.{advanceBy, idExAfter, ifIdAfter, placeAfter, waitAfter}
+use Rattle.pipeline.specs.Move.{isWait}
 use Rattle.pipeline.proofs.Stages.proceed.Statement.{statement}
 use Rattle.pipeline.proofs.Stages.proceed.Tie as tie
 
 pub proceed-spec : {M : Type 1} → statement M
-unfolding Becomes view proceeding shifted
+unfolding advanceBy idExAfter ifIdAfter isWait waitAfter placeAfter
 proceed-spec = tie.close (tie.spec
-    (λ c κs. search needs) (λ c κs. search needs) (λ c κs. search needs) (λ c κs. search needs)
-    (λ c κs. search needs)
-    (λ c rs. simp (
+    (λ c κs. search needs) (λ c κs. search needs) (λ c κs. search needs) (λ c κs. search needs) (λ c κs. search needs)
+    (λ c. rw (
       c .sel2 .ensures,
-      c .before .shift .ensures,
+      c .before .mem-wb .ensures,
       c .before .before .sel .ensures,
       c .before .before .before .fall .ensures,
-      c .before .before .before .before .fetched .ensures,
+      c .before .before .before .before .fetch .ensures,
     )))

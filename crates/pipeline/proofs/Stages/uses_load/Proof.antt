@@ -1,6 +1,6 @@
 -- `pipeline::Stages::uses_load` meets its contract. Assumes nothing.
 use borrow.Author.Needs.{needs}
-use Rattle.pipeline.specs.Stages.{usesLoad}
+use Rattle.pipeline.specs.Inner.{usesLoad}
 use Rattle.pipeline.proofs.Stages.uses_load.Statement.{statement}
 use Rattle.pipeline.proofs.Stages.uses_load.Tie as tie
 
@@ -8,4 +8,4 @@ pub uses-load-spec : {M : Type 1} → statement M
 unfolding usesLoad
 uses-load-spec = tie.close (tie.spec
     (λ c κs. search needs)
-    (λ c. rw (c .before .load-use-hazard .ensures)))
+    (λ c. rw (c .before .load-is-used .ensures)))

@@ -1,6 +1,6 @@
 -- `pipeline::Stages::waits_on` meets its contract. Assumes nothing.
 use mathlib.Core.Path.{refl}
-use Rattle.pipeline.specs.Stages.{waitsOn}
+use Rattle.pipeline.specs.Move.{waitsOn}
 use Rattle.pipeline.proofs.Stages.waits_on.Statement.{statement}
 use Rattle.pipeline.proofs.Stages.waits_on.Tie as tie
 

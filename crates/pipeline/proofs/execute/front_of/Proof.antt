@@ -1,11 +1,13 @@
 -- `pipeline::execute::front_of` meets its contract. Assumes nothing.
 use borrow.Author.Needs.{needs}
-use Rattle.pipeline.specs.Stages.{frontOf}
+use Rattle.isa.specs.Waits.{predict}
+use Rattle.pipeline.specs.Fetch.{predicted}
+use Rattle.pipeline.specs.Plans.{frontOf}
 use Rattle.pipeline.proofs.execute.front_of.Statement.{statement}
 use Rattle.pipeline.proofs.execute.front_of.Tie as tie
 
 pub front-of-spec : {M : Type 1} → statement M
-unfolding frontOf
+unfolding frontOf predicted predict
 front-of-spec = tie.close (tie.spec
     (λ c κs. search needs) (λ c κs. search needs) (λ c κs. search needs)
     (λ c. rw (c .predict-if .ensures, c .before .operands .ensures, c .before .before .decoded .ensures)))

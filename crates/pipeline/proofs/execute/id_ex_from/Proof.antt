@@ -1,6 +1,6 @@
 -- `pipeline::execute::id_ex_from` meets its contract. Assumes nothing.
 use borrow.Author.Needs.{needs}
-use Rattle.pipeline.specs.Stages.{idExFrom}
+use Rattle.pipeline.specs.Plans.{idExFrom}
 use Rattle.pipeline.proofs.execute.id_ex_from.Statement.{statement}
 use Rattle.pipeline.proofs.execute.id_ex_from.Tie as tie
 

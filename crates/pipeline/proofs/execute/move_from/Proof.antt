@@ -1,7 +1,6 @@
 -- `pipeline::execute::move_from` meets its contract. Assumes nothing.
 use borrow.Author.Needs.{needs}
-use Rattle.pipeline.specs.Move.{proceedOr}
-use Rattle.pipeline.specs.Stages.{moveFrom}
+use Rattle.pipeline.specs.Move.{moveFrom, proceedOr}
 use Rattle.pipeline.proofs.execute.move_from.Statement.{statement}
 use Rattle.pipeline.proofs.execute.move_from.Tie as tie
 

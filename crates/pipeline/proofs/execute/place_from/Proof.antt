@@ -1,11 +1,11 @@
 -- `pipeline::execute::place_from` meets its contract. Assumes nothing.
 use borrow.Author.Needs.{needs}
-use Rattle.pipeline.specs.Stages.{placeFrom}
+use Rattle.pipeline.specs.Fetch.{fetchFrom, placeOr}
 use Rattle.pipeline.proofs.execute.place_from.Statement.{statement}
 use Rattle.pipeline.proofs.execute.place_from.Tie as tie
 
 pub place-from-spec : {M : Type 1} → statement M
-unfolding placeFrom
+unfolding fetchFrom placeOr
 place-from-spec = tie.close (tie.spec
     (λ c. search needs) (λ c. search needs) (λ c. search needs) (λ c. search needs)
     (λ c κs. search needs) (λ c κs. search needs) (λ c. search needs)

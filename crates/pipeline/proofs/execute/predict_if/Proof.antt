@@ -1,11 +1,9 @@
 -- `pipeline::execute::predict_if` meets its contract. Assumes nothing.
 use borrow.Author.Needs.{needs}
-use Rattle.pipeline.specs.Stages.{predictIf}
 use Rattle.pipeline.proofs.execute.predict_if.Statement.{statement}
 use Rattle.pipeline.proofs.execute.predict_if.Tie as tie
 
 pub predict-if-spec : {M : Type 1} → statement M
-unfolding predictIf
 predict-if-spec = tie.close (tie.spec
     (λ c κs. search needs)
     (λ c. simp (c .predict .ensures, c .before .if1 .taken))

@@ -11,4 +11,4 @@ load-use-hazard-spec = tie.close (tie.spec
     (λ c κs. search needs)
     (λ c. rw (sym (c .before .out-of-bounds .ensures), c .if1 .taken))
     (λ c κs. search needs)
-    (λ c. rw (c .load-use-hazard .ensures, sym (c .before .before .out-of-bounds .ensures), c .before .if1 .left)))
+    (λ c. rw (c .load-is-used .ensures, sym (c .before .before .out-of-bounds .ensures), c .before .if1 .left)))

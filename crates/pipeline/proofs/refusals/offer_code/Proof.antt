@@ -1,18 +1,13 @@
 -- `pipeline::refusals::offer_code` meets its contract. Assumes nothing.
 use borrow.Author.Needs.{needs}
-use Rattle.pipeline.specs.Codes.{offerCode}
-use Rattle.pipeline.specs.Tick.{badOffer, mfsrOffer}
+use Rattle.pipeline.specs.Tick.{offerCode}
 use Rattle.pipeline.proofs.refusals.offer_code.Statement.{statement}
 use Rattle.pipeline.proofs.refusals.offer_code.Tie as tie
 
 pub offer-code-spec : {M : Type 1} → statement M
-unfolding offerCode badOffer mfsrOffer
+unfolding offerCode
 offer-code-spec = tie.close (tie.spec
     (λ c. search needs) (λ c. search needs)
-    (λ c. simp (c .enum-told .given .1, c .before .match .keys2))
+    (λ c. rw (c .enum-told .given .1))
     (λ c κs. search needs)
-    (λ c. simp (
-      c .instr-code .ensures,
-      c .before .before .offer .given .1,
-      c .before .before .before .match .keys1,
-    )))
+    (λ c. rw (c .before .before .offer .given .1) (c .code .ensures)))

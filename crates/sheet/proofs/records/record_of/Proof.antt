@@ -9,11 +9,10 @@ use mir.Facts.{toZ-ofZ}
 use mir.Syntax.{w16}
 use native.Mathlib.Omega.{arith}
 use Rattle.isa.proofs.Bools.{both-l, both-r, split}
-use Rattle.sheet.specs.Records.{within}
 use Rattle.isa.specs.Short.{lowBits}
 use Rattle.sheet.specs.Names.{Line, NoRecord, Pair, Unknown}
-use Rattle.sheet.specs.Records.{both, farOf, halfOf, jumpOf, lineIf, offsetOf, plainOf}
-use Rattle.sheet.specs.Records.{recordOf, threeOf, zeros}
+use Rattle.sheet.specs.Records.{both, farOf, halfOf, jumpOf, lineIf, offsetOf, plainOf, recordOf, threeOf, within}
+use Rattle.sheet.specs.Records.{zeros}
 use Rattle.sheet.proofs.records.record_of.Statement.{statement}
 use Rattle.sheet.proofs.records.record_of.Tie as tie
 

@@ -51,7 +51,7 @@ pub fn answer(core: &mut Arithmetic, command: u32, a: u32, b: u32) -> u64 {
     }
 }
 
-/// Gives document 01's refusal 5; the original has no commands and so no such answer.
+/// Gives refusal 5 (RULES 21.2); the original has no commands and so no such answer.
 fn refusal_by_the_reading_of_document_01() -> u64 {
     4_294_967_301
 }

@@ -42,7 +42,7 @@ impl Original {
         }
     }
 
-    /// Makes a fresh state; the original sets only the fetch mode, document 01 the retire mode too.
+    /// Makes a fresh state; the original sets only the fetch mode, RULES 12.1 the retire mode too.
     pub fn start(&mut self, begin: &Begin) -> State {
         let mut core = fresh_core();
         core.reset(begin.pc);

@@ -1,8 +1,8 @@
-//! Makes the register block, which document 01 drops, leave no trace in a tick with four empty latches.
+//! Makes the register block, which RULES does not have, leave no trace in a tick with four empty latches.
 
 use super::{InstructionMode, PipelineCpu, REG_ZERO};
 
-/// What the original takes over from the block and document 01 leaves alone.
+/// What the original takes over from the block and RULES leaves alone.
 pub struct Held {
     retire_pc: u32,
     retire_mode: InstructionMode,

@@ -1,4 +1,4 @@
-//! One tick of the original, with stand-ins where document 01 departs from it.
+//! One tick of the original, with stand-ins where RULES departs from it.
 
 use super::lent::Lent;
 use super::original::Original;
@@ -154,7 +154,7 @@ impl Original {
     }
 }
 
-/// Tells whether user mode was denied an access, which document 01 knows nothing of.
+/// Tells whether user mode was denied an access, which RULES knows nothing of.
 fn was_denied(core: &PipelineCpu, state: &State) -> bool {
     state.user && (!core.sys.user || core.if_id.fetch_fault.is_some())
 }

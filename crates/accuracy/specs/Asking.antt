@@ -1,0 +1,57 @@
+-- Asking is right: a tick is accepted exactly if it gives what asking names; and lists of ticks made by asking.
+use Prim.Native.Nat.{ℕ}
+use mathlib.Core.Bool.{Bool, false, true}
+use mathlib.Core.List.{List, [], _++_, _∷_}
+use mathlib.Core.Path.{_≡_}
+use Rattle.isa.specs.Short.{decodedOf}
+use Rattle.pipeline.specs.Advance.{next}
+use Rattle.pipeline.specs.Ask.{ask}
+use Rattle.pipeline.specs.Tick.{fitsOffer, isAnswer, moved, offerCode, refused, taken, tick}
+use Rattle.pipeline.specs.Turn.{Source, reply}
+use Rattle.accuracy.specs.Accuracy.{Run, offered, one}
+use Rattle.accuracy.specs.Names.{Fetch, From, Given, Instr, Load, Mode, NoFetch, NoRequest, Normal, NotAsked}
+use Rattle.accuracy.specs.Names.{Offer, PipelineCpu, RawInstr, Request, Store, Wanted, Wants}
+
+-- an instruction of the mode that is wanted, or Nothing where no fetch is
+unfoldable pub fitsFetch : Fetch → Offer → Bool
+fitsFetch NoFetch o = fitsOffer false Normal o
+fitsFetch (From p m) o = fitsOffer true m o
+
+unfoldable pub isLoad : Request → Bool
+isLoad NoRequest = false
+isLoad (Load a w) = true
+isLoad (Store a w v) = false
+
+-- a request as a list
+unfoldable pub listed : Request → List Request
+listed NoRequest = []
+listed (Load a w) = Load a w ∷ []
+listed (Store a w v) = Store a w v ∷ []
+
+-- a tick with the offer that is wanted, which 1 and 2 do not refuse, and an answer exactly where a load is wanted
+pub record Gives (w : Wanted) (t : Given) : Type 0 where
+  pub offer : fitsFetch (w .fetch) (t .offer) ≡ true
+  pub code : offerCode (t .offer) ≡ 0
+  pub answer : isAnswer (t .answer) ≡ isLoad (w .request)
+
+pub record Asking : Type 0 where
+  -- what is wanted can be given
+  pub given : (w : Wanted) → (t : Given) × Gives w t
+  -- a tick that gives it is accepted, and no other
+  pub accepts : (s : PipelineCpu) (w : Wanted) (t : Given) → ask s ≡ Wants w → Gives w t
+      → tick s t ≡ moved (next s (taken t))
+  pub only : (s s′ : PipelineCpu) (w : Wanted) (t : Given) → ask s ≡ Wants w → tick s t ≡ moved s′ → Gives w t
+  -- an instruction counts as offered for the address and mode that are wanted
+  pub offers : (r : Run) (w : Wanted) (t : Given) (ts : List Given) (p : ℕ) (m : Mode) (i : RawInstr)
+      → ask (r .state) ≡ Wants w → Gives w t → w .fetch ≡ From p m → t .offer ≡ Instr i
+      → offered r (t ∷ ts) ≡ (record { pc = p; mode = m }, decodedOf i) ∷ offered (one r t) ts
+  -- a list's requests grow by the one that is wanted
+  pub requests : (r : Run) (w : Wanted) (t : Given) → ask (r .state) ≡ Wants w → Gives w t
+      → (one r t) .requests ≡ r .requests ++ listed (w .request)
+  -- where asking is refused, every tick is, with the same number
+  pub refuses : (s : PipelineCpu) (n : ℕ) (t : Given) → ask s ≡ NotAsked n → tick s t ≡ refused n
+
+-- the ticks of a list that are asked for, answered from a source, with an answer at hand for each
+unfoldable pub replies : Source → List ℕ → Run → List Given
+replies src [] r = []
+replies src (v ∷ vs) r = reply src v (r .state) ∷ replies src vs (one r (reply src v (r .state)))

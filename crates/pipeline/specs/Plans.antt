@@ -1,0 +1,49 @@
+-- The plan of a tick in which no wait goes on, made once MEM/WB has retired, and the stages behind it.
+use Prim.Native.Nat.{ℕ}
+use mathlib.Core.Bool.{cond}
+use mathlib.Core.List.{List}
+use Rattle.isa.specs.Operands.{operandsOf}
+use Rattle.isa.specs.Redirects.{isTo}
+use Rattle.isa.specs.Short.{decodedOf}
+use Rattle.latch.specs.Decode.{idExBy}
+use Rattle.latch.specs.Latches.{emptyExMem, emptyIdEx}
+use Rattle.pipeline.specs.Advance.{advanceBy}
+use Rattle.pipeline.specs.Fetch.{fetchPlace, fetches, predicted}
+use Rattle.pipeline.specs.Move.{freeMove, nextExMem}
+use Rattle.pipeline.specs.Names.{Front, IdEx, IfId, Plan, Stages, Taken, keepWaiting}
+use mathlib.Core.Bool.{Bool, _&&_}
+
+-- IF/ID decoded, with its operands and the prediction
+unfoldable pub frontOf : IfId → Front
+frontOf f = record {
+  decoded = decodedOf (f .raw);
+  operands = operandsOf (decodedOf (f .raw));
+  predicted = predicted f;
+}
+
+-- the next ID/EX, by the front
+unfoldable pub idExFrom : IfId → Front → List ℕ → IdEx
+idExFrom l f rs =
+    cond (l .valid) (idExBy (isTo (f .predicted)) (f .decoded) (f .operands) (l .pc) (l .mode) rs) emptyIdEx
+
+-- the move, the next EX/MEM, the front and the place to fetch from
+unfoldable pub planOf : Stages → List ℕ → Plan
+planOf l rs = record {
+  step = freeMove l rs;
+  «ex_mem» = nextExMem (freeMove l rs) l rs;
+  front = frontOf (l .«if_id»);
+  place = fetchPlace (freeMove l rs) l;
+}
+
+-- whether a plan fetches; a machine that has halted does not
+unfoldable pub planFetches : Stages → Plan → Bool
+planFetches l p = l .running && fetches (p .step)
+
+-- the stages after the move of a plan
+unfoldable pub advancePlan : Plan → Stages → List ℕ → Taken → Stages
+advancePlan p l rs x =
+    advanceBy (p .step) (p .«ex_mem») (idExFrom (l .«if_id») (p .front) rs) (p .place) l x
+
+-- the stages after a wait that goes on
+unfoldable pub waited : Stages → Taken → Stages
+waited l x = advanceBy keepWaiting emptyExMem (l .«id_ex») (l .«fetch_at») l x
