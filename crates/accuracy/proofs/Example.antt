@@ -11,7 +11,7 @@ use Rattle.isa.specs.Redirects.{isException, isMtsr, isTo, modeOr, newModeOr, t
 use Rattle.isa.specs.Refusals.{decodedCode, instructionCode, isOf, rawCode}
 use Rattle.isa.specs.Registers.{isDest, isNamed, isReg, putReg, readReg, writeCpuid, writeReg}
 use Rattle.isa.specs.Short.{decodeShort, decodedOf, lowBits, nibble, shortBy}
-use Rattle.isa.specs.Waits.{isDiv, isMul, isNegative, isUsed, isUsedLoad, predict, predictBy, waits}
+use Rattle.isa.specs.Waits.{isDiv, isMul, isNegative, isUsed, isUsedLoad, predict, predictBy, slowOf, waits}
 use Rattle.latch.specs.Bounds.{badExMem, badIdEx, badIfId, badMemWb, badWidth}
 use Rattle.latch.specs.Decode.{decodePredicted, idExBy, idExOf, loadUse}
 use Rattle.latch.specs.Execute.{effectFrom, effectIn, exMemOf, mispredict, operandB}
@@ -48,8 +48,8 @@ unfolding bit add32 sub32 offset32 and32 or32 xor32 sll32 srl32 sra32 slt32 sltu
     isEmpty instructionAt effectAt valueAt destOf stepBy isBarred stopsAt machineBy machineStep machine gpr plain bare
     writes unary binary reads loading storing branching special operandsN operandsS operandsOf okDest okOperands isTo
     targetOr modeOr newModeOr isException isMtsr instructionCode rawCode decodedCode isOf isReg readReg putReg
-    writeReg writeCpuid isDest isNamed nibble lowBits shortBy decodeShort decodedOf isMul isDiv waits isUsed
-    isUsedLoad isNegative predictBy predict badWidth badIfId badIdEx badExMem badMemWb idExBy idExOf decodePredicted
+    writeReg writeCpuid isDest isNamed nibble lowBits shortBy decodeShort decodedOf slowOf isMul isDiv waits
+    isUsed isUsedLoad isNegative predictBy predict badWidth badIfId badIdEx badExMem badMemWb idExBy idExOf decodePredicted
     loadUse effectIn exMemOf mispredict operandB effectFrom cpuidWord fromMemWb fromExMem forwardFrom emptyIfId
     emptyIdEx emptyExMem emptyMemWb cleared loads stores destAfter writesAfter valueAfter passedOn memWbOf requests
     halts retireReg retireCpuid retiredRegs retiredPc retiredMode isFaulty placeAfter ifIdAfter idExAfter waitAfter

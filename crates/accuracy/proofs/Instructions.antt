@@ -10,11 +10,11 @@ use Rattle.isa.proofs.Bools.{and-3, and-r, nor, or-l, or-r, split, un-not}
 use Rattle.isa.specs.Effect.{branches, effectN, effectOf, effectS, fall, gives, goesBy, goesOn, identifies, jumps}
 use Rattle.isa.specs.Effect.{links, marked, noAccess, noMarks, noResult, nothing, privileged, raises, reaches, resumes}
 use Rattle.isa.specs.Effect.{sets, stops, written}
-use Rattle.isa.specs.Operands.{bare, binary, branching, gpr, loading, okDest, okOperands, operandsN, operandsOf}
-use Rattle.isa.specs.Operands.{operandsS, plain, reads, special, storing, unary, writes}
+use Rattle.isa.specs.Operands.{bare, binary, branching, divLatency, gpr, loading, mulLatency, okDest, okOperands}
+use Rattle.isa.specs.Operands.{operandsN, operandsOf, operandsS, plain, reads, special, storing, unary, writes}
 use Rattle.isa.specs.Redirects.{isException, isTo, modeOr, newModeOr, targetOr}
 use Rattle.isa.specs.Registers.{isNamed}
-use Rattle.isa.specs.Waits.{isDiv, isMul, isNegative, predict, predictBy, waits}
+use Rattle.isa.specs.Waits.{isDiv, isMul, isNegative, predict, predictBy, slowOf, waits}
 use Rattle.latch.specs.Bounds.{badWidth}
 use Rattle.latch.specs.Execute.{mispredict}
 use Rattle.word.specs.Words.{bit, offset32, wordOf}
@@ -68,16 +68,16 @@ oddMode k (ToMode n) h = false
 unfoldable pub oddBounds : Operands → Effect → Bool
 oddBounds o e = badWidth (e .access .«mem_size») || ltb 2 (o .«n_srcs»)
 
--- a latency other than none, 3 and 16
-unfoldable pub oddLatency : Operands → Bool
-oddLatency o = not (eqb (o .latency) 0 || (eqb (o .latency) 3 || eqb (o .latency) 16))
+-- a latency that is not a multiply's or divide's, by the instructions that these are
+unfoldable pub oddLatency : Bool → Bool → Operands → Bool
+oddLatency u v o = not (eqb (o .latency) (mulLatency * bit u + divLatency * bit v))
 
 unfoldable pub odd : Mode → Bool → Bool → Operands → Effect → Redirect → Bool
 odd k u v o e g =
     oddLoad u v o e g
     || (oddStore o e
     || (oddWait u v o e g
-    || (oddLatency o || (oddSwap (e .«branch_new_mode») g (e .redirect)
+    || (oddLatency u v o || (oddSwap (e .«branch_new_mode») g (e .redirect)
     || (oddMode k (e .«branch_new_mode») (e .redirect) || oddBounds o e)))))
 
 unfoldable pub kind : Decoded → Mode
@@ -89,7 +89,7 @@ not-oddN : (u : Bool) (i : Instruction) (p n : ℕ) (m : Mode) (x y : ℕ)
     (predict (DecNormal i) p m)
     ≡ false
 unfolding odd oddLoad oddStore oddWait oddSwap oddLatency oddMode oddBounds badWidth notMode operandsOf operandsN
-    effectN isMul isDiv
+    effectN isMul isDiv slowOf bit
     isTo
     isNamed predict predictBy isException bare plain writes unary binary reads loading storing branching special
     nothing written noResult noAccess noMarks goesOn goesBy marked stops resumes identifies
@@ -143,7 +143,7 @@ not-oddS : (i : ShortInstruction) (p n : ℕ) (m : Mode) (x y : ℕ)
     ≡
     false
 unfolding odd oddLoad oddStore oddWait oddSwap oddLatency oddMode oddBounds badWidth notMode operandsOf operandsS
-    effectS isMul isDiv
+    effectS isMul isDiv bit
     isTo
     isNamed predict predictBy isException bare plain writes unary binary reads loading storing branching special
     nothing written noResult noAccess noMarks goesOn goesBy marked stops resumes identifies
@@ -172,7 +172,7 @@ record Even (u : Bool) (i : Decoded) (p : ℕ) (m : Mode) (x y : ℕ) : Type 0 w
   load : oddLoad (isMul i) (isDiv i) (operandsOf i) (effectOf u i p x y) (predict i p m) ≡ false
   store : oddStore (operandsOf i) (effectOf u i p x y) ≡ false
   wait : oddWait (isMul i) (isDiv i) (operandsOf i) (effectOf u i p x y) (predict i p m) ≡ false
-  latency : oddLatency (operandsOf i) ≡ false
+  latency : oddLatency (isMul i) (isDiv i) (operandsOf i) ≡ false
   swap : oddSwap ((effectOf u i p x y) .«branch_new_mode») (predict i p m) ((effectOf u i p x y) .redirect) ≡ false
   mode : oddMode (kind i) ((effectOf u i p x y) .«branch_new_mode») ((effectOf u i p x y) .redirect) ≡ false
   bounds : oddBounds (operandsOf i) (effectOf u i p x y) ≡ false
@@ -187,13 +187,13 @@ even u i p m x y =
     let r₁ = or-r (oddLoad (isMul i) (isDiv i) o e g) _ r₀ in
     let r₂ = or-r (oddStore o e) _ r₁ in
     let r₃ = or-r (oddWait (isMul i) (isDiv i) o e g) _ r₂ in
-    let r₄ = or-r (oddLatency o) _ r₃ in
+    let r₄ = or-r (oddLatency (isMul i) (isDiv i) o) _ r₃ in
     let r₅ = or-r (oddSwap (e .«branch_new_mode») g (e .redirect)) _ r₄ in
     record {
       load = or-l (oddLoad (isMul i) (isDiv i) o e g) _ r₀;
       store = or-l (oddStore o e) _ r₁;
       wait = or-l (oddWait (isMul i) (isDiv i) o e g) _ r₂;
-      latency = or-l (oddLatency o) _ r₃;
+      latency = or-l (oddLatency (isMul i) (isDiv i) o) _ r₃;
       swap = or-l (oddSwap (e .«branch_new_mode») g (e .redirect)) _ r₄;
       mode = or-l (oddMode (kind i) (e .«branch_new_mode») (e .redirect)) _ r₅;
       bounds = or-r (oddMode (kind i) (e .«branch_new_mode») (e .redirect)) _ r₅;
@@ -358,19 +358,29 @@ on-on Next (To q n) p m e = cc
 on-on (To q n) Next p m e = cc
 on-on (To q n) (To r k) p m e = cc
 
+slow-rest : (i : Decoded) →
+    ((isMul i && isDiv i) || (not (ltb 1 ((operandsOf i) .«n_srcs»)) && not (eqb ((operandsOf i) .«src_b») 0))) ≡
+    false
+unfolding oddWait
+slow-rest i = or-r ((isMul i || isDiv i) && (isTo ((effectOf false i 0 0 0) .redirect) || isTo
+    (predict i 0 Normal))) _ ((even false i 0 Normal 0 0) .wait)
+
+pub slow-one : (i : Decoded) → (isMul i && isDiv i) ≡ false
+slow-one i = or-l (isMul i && isDiv i) _ (slow-rest i)
+
 -- the waits: 2 for a multiply, 15 for a divide
-waits-by : (l : ℕ) → not (eqb l 0 || (eqb l 3 || eqb l 16)) ≡ false → l - 1 ≡ 2 * bit (eqb l 3) + 15 * bit
-    (eqb l 16)
+waits-by : (l : ℕ) (u v : Bool) → not (eqb l (mulLatency * bit u + divLatency * bit v)) ≡ false → (u && v) ≡ false
+    → l - 1 ≡ 2 * bit u + 15 * bit v
 unfolding bit
-waits-by l h = split (eqb l 0)
-    (λ z. rw (eqb-true l 0 z))
-    (λ z. split (eqb l 3)
-    (λ t. rw (eqb-true l 3 t))
-    (λ t. split (eqb l 16) (λ s. rw (eqb-true l 16 s)) (λ s. absurd (false≢true (sym h ∙ rw (z, t, s))))))
+waits-by l true true h n = cc
+waits-by l true false h n = rw (eqb-true l 3 (un-not _ h))
+waits-by l false true h n = rw (eqb-true l 16 (un-not _ h))
+waits-by l false false h n = rw (eqb-true l 0 (un-not _ h))
 
 pub waits-is : (i : Decoded) → waits i ≡ 2 * bit (isMul i) + 15 * bit (isDiv i)
-unfolding waits isMul isDiv oddLatency
-waits-is i = waits-by ((operandsOf i) .latency) ((even false i 0 Normal 0 0) .latency)
+unfolding waits oddLatency
+waits-is i =
+    waits-by ((operandsOf i) .latency) (isMul i) (isDiv i) ((even false i 0 Normal 0 0) .latency) (slow-one i)
 
 -- what a load does and does not
 pub record Plain (i : Decoded) (p : ℕ) (m : Mode) (e : Effect) : Type 0 where
@@ -470,16 +480,6 @@ slow-straight u i p m x y q h =
 pub slow-load : (i : Decoded) → 0 < waits i → (operandsOf i) .«is_load» ≡ false
 slow-load i h = nor ((operandsOf i) .«is_load») (λ e. let z = (load-plain false i 0 Normal 0 0 e) .quick in omega
     arith)
-
-slow-rest : (i : Decoded) →
-    ((isMul i && isDiv i) || (not (ltb 1 ((operandsOf i) .«n_srcs»)) && not (eqb ((operandsOf i) .«src_b») 0))) ≡
-    false
-unfolding oddWait
-slow-rest i = or-r ((isMul i || isDiv i) && (isTo ((effectOf false i 0 0 0) .redirect) || isTo
-    (predict i 0 Normal))) _ ((even false i 0 Normal 0 0) .wait)
-
-pub slow-one : (i : Decoded) → (isMul i && isDiv i) ≡ false
-slow-one i = or-l (isMul i && isDiv i) _ (slow-rest i)
 
 bits-in : (u v : Bool) → (u && v) ≡ false → 2 * bit u + 15 * bit v ≤ 15
 unfolding bit

@@ -1,5 +1,5 @@
 -- Read this first: what is claimed of the pipeline, and the definitions that it rests on, in the order of RULES.
--- word: Words. isa: Short (short decode), Operands, Effect (execute), Waits (waits, used loads, prediction),
+-- word: Words. isa: Short (short decode), Operands, Effect (execute), Waits (MUL to MOD, used loads, prediction),
 -- Registers, Redirects, Refusals (1, 2), Machine (the one-at-a-time machine). latch: Latches, Decode, Forwarding,
 -- Execute, Memory, Retire, Bounds (refusal 11 of each latch). pipeline: Forwarding, Execute, Counting, Retire, Move,
 -- Fetch, Advance (the tick's moves), Start, Refusals (11, 12, 13), Ask (asking), Tick (3, 4), Turn (a source's tick).

@@ -1,7 +1,12 @@
 // Cases that stand alone, by the first number of their line.
-use crate::listed::agree;
+use crate::decoding::halfword;
+use crate::decoding::normal_operands;
+use crate::decoding::short_operands;
+use crate::machine;
+use crate::machine::asked;
 use crate::number::of_byte;
 use crate::place::byte;
+use crate::place::set_counter;
 use crate::place::set_flag;
 use crate::read_instruction::decoded;
 use crate::read_latch::id_ex;
@@ -19,9 +24,7 @@ use pipeline::Executed;
 use pipeline::Forwarded;
 use pipeline::Hazard;
 use pipeline::MulDiv;
-use pipeline::Outcome;
 use pipeline::Sources;
-use pipeline::Ticked;
 
 // The line that answers: none, or the numbers from one place to another.
 pub enum Reply {
@@ -39,34 +42,20 @@ fn accepted(n: &mut [u32; 192], end: usize) -> Reply {
     Reply::Numbers(0, end)
 }
 
-pub fn code_of(o: Outcome) -> u32 {
-    match o {
-        Outcome::Accepted => 0,
-        Outcome::Refused(code) => code,
-    }
-}
-
-fn with_state(n: &mut [u32; 192], t: Ticked) -> Reply {
-    let state = t.state;
-    let outcome = t.outcome;
-    n[0] = code_of(outcome);
-    set_state(n, state);
+fn tick(n: &mut [u32; 192]) -> Reply {
+    let g = given(n, 121);
+    n[0] = machine::tick(n, g);
     Reply::Numbers(0, 121)
 }
 
-fn tick(n: &mut [u32; 192]) -> Reply {
-    let t = state(n).tick(given(n, 121));
-    with_state(n, t)
-}
-
 fn ask(n: &mut [u32; 192]) -> Reply {
-    let a = state(n).ask();
+    let a = asked(n);
     set_asked(n, a);
     Reply::Numbers(0, 8)
 }
 
-fn forwarded(n: &mut [u32; 192]) -> Reply {
-    match state(n).forwarded(byte(n, 121, 0)) {
+fn put_forwarded(n: &mut [u32; 192], f: Forwarded) -> Reply {
+    match f {
         Forwarded::Refused(code) => refused(n, code),
         Forwarded::Word(word) => {
             n[1] = word;
@@ -75,27 +64,42 @@ fn forwarded(n: &mut [u32; 192]) -> Reply {
     }
 }
 
-fn execute(n: &mut [u32; 192]) -> Reply {
-    match state(n).execute_ex(id_ex(n, 121)) {
+fn forwarded(n: &mut [u32; 192]) -> Reply {
+    let f = state(n).forwarded(byte(n, 121, 0));
+    put_forwarded(n, f)
+}
+
+fn put_executed(n: &mut [u32; 192], e: Executed) -> Reply {
+    match e {
         Executed::Refused(code) => refused(n, code),
         Executed::Done(e) => {
-            let ex_mem = e.ex_mem;
             let redirect = e.redirect;
-            set_ex_mem(n, 1, ex_mem);
             set_redirect(n, 28, redirect);
+            let ex_mem = e.ex_mem;
+            set_ex_mem(n, 1, ex_mem);
             accepted(n, 31)
         }
     }
 }
 
-fn decode(n: &mut [u32; 192]) -> Reply {
-    match state(n).decode_id(if_id(n, 121)) {
+fn execute(n: &mut [u32; 192]) -> Reply {
+    let e = state(n).execute_ex(id_ex(n, 121));
+    put_executed(n, e)
+}
+
+fn put_decoded(n: &mut [u32; 192], d: DecodedId) -> Reply {
+    match d {
         DecodedId::Refused(code) => refused(n, code),
         DecodedId::Latch(l) => {
             set_id_ex(n, 1, l);
             accepted(n, 19)
         }
     }
+}
+
+fn decode(n: &mut [u32; 192]) -> Reply {
+    let d = state(n).decode_id(if_id(n, 121));
+    put_decoded(n, d)
 }
 
 fn sources(n: &mut [u32; 192]) -> Reply {
@@ -133,20 +137,21 @@ fn hazard(n: &mut [u32; 192]) -> Reply {
     }
 }
 
+// The code alone where it is a refusal's.
 fn retire(n: &mut [u32; 192]) -> Reply {
-    let t = state(n).retire();
-    let outcome = t.outcome;
-    match outcome {
-        Outcome::Refused(code) => refused(n, code),
-        Outcome::Accepted => with_state(n, t),
+    let code = machine::retire(n);
+    n[0] = code;
+    if code == 0 {
+        return Reply::Numbers(0, 121);
     }
+    Reply::Numbers(0, 1)
 }
 
-// 1 for a listed answer that is right, 0 for one that is not.
-fn listed(n: &mut [u32; 192]) -> Reply {
-    let right = agree(n);
-    set_flag(n, 1, 0, right);
-    Reply::Numbers(1, 2)
+// The high half and the low half of what the arithmetic of a command gives.
+fn arithmetic(n: &mut [u32; 192]) -> Reply {
+    let r = word::src32_alu(n[1], n[2], n[3]);
+    set_counter(n, 0, 0, r);
+    Reply::Numbers(0, 2)
 }
 
 fn start(n: &mut [u32; 192]) -> Reply {
@@ -158,9 +163,9 @@ fn start(n: &mut [u32; 192]) -> Reply {
 // How many numbers a line has, or 0 where its first number is no case's.
 pub fn length_of(kind: u32) -> usize {
     match kind {
-        0x1 | 0x2 => 6,
-        0x3 => 14,
-        0x4 => 11,
+        0x1 => 4,
+        0x2 | 0x4 => 2,
+        0x3 => 5,
         0x5 => 128,
         0x6 | 0xD => 121,
         0x7 => 122,
@@ -181,7 +186,10 @@ pub fn length_of(kind: u32) -> usize {
 // Answers a case with what the proved functions give.
 pub fn answer(n: &mut [u32; 192]) -> Reply {
     match n[0] {
-        0x1 | 0x2 | 0x3 | 0x4 => listed(n),
+        0x1 => arithmetic(n),
+        0x2 => halfword(n),
+        0x3 => normal_operands(n),
+        0x4 => short_operands(n),
         0x5 => tick(n),
         0x6 => ask(n),
         0x7 => forwarded(n),

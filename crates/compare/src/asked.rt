@@ -1,11 +1,12 @@
 // The requests of a run's ticks, by asking before each: how many, and a hash of them in order.
+use crate::machine;
+use crate::machine::asked;
 use isa::Request;
 use pipeline::Answer;
 use pipeline::Asked;
 use pipeline::Fetch;
 use pipeline::Given;
 use pipeline::Offer;
-use pipeline::PipelineCpu;
 use pipeline::Wanted;
 use sheet::offer::offer_at;
 
@@ -66,13 +67,23 @@ fn answered(answers: &[u32], used: usize, load: bool) -> Answer {
 }
 
 // What the next tick wants; nothing where asking is refused.
-fn wanted(s: PipelineCpu) -> Wanted {
-    match s.ask() {
+fn wanted(a: Asked) -> Wanted {
+    match a {
         Asked::Refused(_) => Wanted {
             fetch: Fetch::None,
             request: Request::None,
         },
         Asked::Wants(w) => w,
+    }
+}
+
+// What a tick that wants this is given.
+fn given(w: Wanted, sheet: &[u8], answers: &[u32], used: usize) -> Given {
+    let fetch = w.fetch;
+    let request = w.request;
+    Given {
+        offer: offered(sheet, fetch),
+        answer: answered(answers, used, loads(request)),
     }
 }
 
@@ -83,23 +94,18 @@ fn more(on: bool, k: usize) -> usize {
     k
 }
 
-// The requests of so many ticks from a state.
-pub fn requests_of(state: PipelineCpu, sheet: &[u8], answers: &[u32], ticks: u32) -> Requests {
-    let mut s = state;
+// The requests of so many ticks from the state of a line.
+pub fn requests_of(from: &[u32; 192], sheet: &[u8], answers: &[u32], ticks: u32) -> Requests {
+    let mut at = *from;
     let mut seen = Requests::none();
     let mut used: usize = 0;
     let mut left = ticks;
     while left > 0 {
-        let w = wanted(s);
-        let fetch = w.fetch;
+        let w = wanted(asked(&at));
         let request = w.request;
-        let load = loads(request);
-        let offer = offered(sheet, fetch);
-        let answer = answered(answers, used, load);
-        let t = s.tick(Given { offer, answer });
-        s = t.state;
+        machine::tick(&mut at, given(w, sheet, answers, used));
         seen = seen.behind(request);
-        used = more(load, used);
+        used = more(loads(request), used);
         left -= 1;
     }
     seen

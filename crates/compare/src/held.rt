@@ -1,4 +1,5 @@
 // The sheet and the load answers that are held from line to line. A line puts 64 numbers behind a place.
+use crate::answer::Reply;
 use crate::place::num;
 
 fn put_byte(sheet: &mut [u8; 20736], at: usize, b: u8) {
@@ -23,7 +24,7 @@ fn put_word(sheet: &mut [u8; 20736], at: usize, w: u32) {
     put_byte(sheet, std::num::wrapping_add_usize(at, 3), (w % 256) as u8);
 }
 
-pub fn put_sheet(sheet: &mut [u8; 20736], n: &[u32; 192]) {
+pub fn put_sheet(sheet: &mut [u8; 20736], n: &[u32; 192]) -> Reply {
     let mut at = num(n, 1, 0) as usize;
     let mut i: usize = 2;
     while i < 66 {
@@ -31,6 +32,7 @@ pub fn put_sheet(sheet: &mut [u8; 20736], n: &[u32; 192]) {
         at = std::num::wrapping_add_usize(at, 4);
         i += 1;
     }
+    Reply::Silent
 }
 
 fn put_answer(answers: &mut [u32; 4096], at: usize, w: u32) {
@@ -39,7 +41,7 @@ fn put_answer(answers: &mut [u32; 4096], at: usize, w: u32) {
     }
 }
 
-pub fn put_answers(answers: &mut [u32; 4096], n: &[u32; 192]) {
+pub fn put_answers(answers: &mut [u32; 4096], n: &[u32; 192]) -> Reply {
     let mut at = num(n, 1, 0) as usize;
     let mut i: usize = 2;
     while i < 66 {
@@ -47,4 +49,5 @@ pub fn put_answers(answers: &mut [u32; 4096], n: &[u32; 192]) {
         at = std::num::wrapping_add_usize(at, 1);
         i += 1;
     }
+    Reply::Silent
 }

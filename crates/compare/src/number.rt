@@ -1,10 +1,6 @@
 // Numbers of a line as smaller ones, and smaller ones as numbers of a line.
 use isa::Dest;
 
-pub fn wide(x: u32) -> u64 {
-    x as u64
-}
-
 pub fn of_byte(x: u8) -> u32 {
     x as u32
 }

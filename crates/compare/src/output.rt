@@ -6,30 +6,25 @@ fn put(out: &mut [u8], at: usize, b: u8) {
     }
 }
 
-fn digit(x: u32) -> u8 {
-    let d = (x % 16) as u8;
-    if d < 10 {
-        return d + b'0';
-    }
-    d - 10 + b'a'
+fn wide(x: u32) -> u64 {
+    x as u64
 }
 
-// How many digits a number has.
-fn digits(x: u32) -> usize {
-    (std::num::wrapping_sub_u32(35, u32::leading_zeros(x | 1)) / 4) as usize
+// Puts the first `count` bytes of a text.
+fn put_text(out: &mut [u8], at: usize, text: &[u8; 16], count: usize) {
+    let mut i: usize = 0;
+    while i < count && i < 16 {
+        put(out, std::num::wrapping_add_usize(at, i), text[i]);
+        i += 1;
+    }
 }
 
 // Puts a number's digits and answers the place behind them.
 fn put_number(out: &mut [u8], at: usize, x: u32) -> usize {
-    let n = digits(x);
-    let mut left = n;
-    let mut rest = x;
-    while left > 0 {
-        left -= 1;
-        put(out, std::num::wrapping_add_usize(at, left), digit(rest));
-        rest /= 16;
-    }
-    std::num::wrapping_add_usize(at, n)
+    let mut text = [0u8; 16];
+    let count = io::hex(wide(x), 1, &mut text);
+    put_text(out, at, &text, count);
+    std::num::wrapping_add_usize(at, count)
 }
 
 // The same behind a space, unless the number is a line's first.

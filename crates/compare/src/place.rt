@@ -53,6 +53,10 @@ pub fn set_flag(n: &mut [u32; 192], at: usize, k: usize, x: bool) {
     set(n, at, k, of_flag(x));
 }
 
+pub fn set_three_flags(n: &mut [u32; 192], at: usize, k: usize, a: bool, b: bool, c: bool) {
+    set_three(n, at, k, of_flag(a), of_flag(b), of_flag(c));
+}
+
 pub fn set_counter(n: &mut [u32; 192], at: usize, k: usize, x: u64) {
     set(n, at, k, (x / 4294967296) as u32);
     set(

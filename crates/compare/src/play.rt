@@ -34,22 +34,30 @@ fn move_state(n: &mut [u32; 192]) {
     }
 }
 
-fn put_run(n: &mut [u32; 192], ran: Ran, requests: Requests) -> Reply {
-    let end = ran.end;
-    let s = ran.state;
-    set_state(n, s);
+// Puts what stands before the state.
+fn put_counts(n: &mut [u32; 192], end: End, ticks: u32, requests: Requests) -> Reply {
     move_state(n);
     put_end(n, end);
-    n[2] = ran.ticks;
+    n[2] = ticks;
     n[3] = requests.count;
     n[4] = requests.hash;
     Reply::Numbers(0, 125)
 }
 
+fn put_run(n: &mut [u32; 192], ran: Ran, requests: Requests) -> Reply {
+    let end = ran.end;
+    let s = ran.state;
+    set_state(n, s);
+    put_counts(n, end, ran.ticks, requests)
+}
+
+fn ran_of(n: &[u32; 192], sheet: &[u8], answers: &[u32]) -> Ran {
+    runner::run(state(n), sheet, answers, n[121])
+}
+
 fn run_of(n: &mut [u32; 192], sheet: &[u8], answers: &[u32]) -> Reply {
-    let s = state(n);
-    let ran = runner::run(s, sheet, answers, n[121]);
-    let requests = requests_of(s, sheet, answers, ran.ticks);
+    let ran = ran_of(n, sheet, answers);
+    let requests = requests_of(n, sheet, answers, ran.ticks);
     put_run(n, ran, requests)
 }
 

@@ -4,14 +4,17 @@ use crate::codes::of_mode;
 use crate::codes::of_new_mode;
 use crate::number::of_byte;
 use crate::number::of_dest;
+use crate::number::of_flag;
 use crate::number::of_half;
 use crate::place::set;
 use crate::place::set_flag;
 use crate::place::set_three;
+use crate::place::set_three_flags;
 use crate::write_instruction::set_decoded;
 use crate::write_instruction::set_raw;
 use isa::Mode;
 use isa::Mtsr;
+use isa::NewMode;
 use latch::ExMem;
 use latch::IdEx;
 use latch::IfId;
@@ -31,6 +34,10 @@ pub fn set_if_id(n: &mut [u32; 192], at: usize, l: IfId) {
     set_raw(n, at, 3, raw);
 }
 
+fn set_three_bytes(n: &mut [u32; 192], at: usize, k: usize, a: u8, b: u8, c: u8) {
+    set_three(n, at, k, of_byte(a), of_byte(b), of_byte(c));
+}
+
 pub fn set_id_ex(n: &mut [u32; 192], at: usize, l: IdEx) {
     let mode = l.mode;
     let decoded = l.decoded;
@@ -39,12 +46,8 @@ pub fn set_id_ex(n: &mut [u32; 192], at: usize, l: IdEx) {
     set_place(n, at, l.valid, l.pc, mode);
     set_decoded(n, at, 3, decoded);
     set_flag(n, at, 8, l.predicted_taken);
-    set(n, at, 9, of_byte(l.src_a));
-    set(n, at, 10, of_byte(l.src_b));
-    set(n, at, 11, of_byte(l.n_srcs));
-    set(n, at, 12, of_dest(dest));
-    set(n, at, 13, l.op_a);
-    set(n, at, 14, l.op_b);
+    set_three_bytes(n, at, 9, l.src_a, l.src_b, l.n_srcs);
+    set_three(n, at, 12, of_dest(dest), l.op_a, l.op_b);
     set_flag(n, at, 15, l.is_load);
     set_flag(n, at, 16, l.is_store);
     set(n, at, 17, of_exception(exception));
@@ -58,6 +61,11 @@ fn set_mtsr(n: &mut [u32; 192], at: usize, k: usize, m: Mtsr) {
     }
 }
 
+// Whether a branch is taken, its target and the new mode.
+fn set_branch(n: &mut [u32; 192], at: usize, k: usize, taken: bool, target: u32, mode: NewMode) {
+    set_three(n, at, k, of_flag(taken), target, of_new_mode(mode));
+}
+
 pub fn set_ex_mem(n: &mut [u32; 192], at: usize, l: ExMem) {
     let mode = l.mode;
     let decoded = l.decoded;
@@ -68,20 +76,12 @@ pub fn set_ex_mem(n: &mut [u32; 192], at: usize, l: ExMem) {
     set_place(n, at, l.valid, l.pc, mode);
     set_decoded(n, at, 3, decoded);
     set(n, at, 8, of_dest(dest));
-    set_flag(n, at, 9, l.writeback);
-    set_flag(n, at, 10, l.is_load);
-    set_flag(n, at, 11, l.is_store);
-    set(n, at, 12, l.alu_result);
-    set(n, at, 13, l.store_value);
-    set(n, at, 14, l.mem_addr);
+    set_three_flags(n, at, 9, l.writeback, l.is_load, l.is_store);
+    set_three(n, at, 12, l.alu_result, l.store_value, l.mem_addr);
     set(n, at, 15, of_byte(l.mem_size));
     set_flag(n, at, 16, l.is_mem_read);
-    set_flag(n, at, 17, l.branch_taken);
-    set(n, at, 18, l.branch_target);
-    set(n, at, 19, of_new_mode(new_mode));
-    set_flag(n, at, 20, l.halt);
-    set_flag(n, at, 21, l.iret);
-    set_flag(n, at, 22, l.cpuid);
+    set_branch(n, at, 17, l.branch_taken, l.branch_target, new_mode);
+    set_three_flags(n, at, 20, l.halt, l.iret, l.cpuid);
     set(n, at, 23, of_exception(exception));
     set_mtsr(n, at, 24, mtsr);
 }
@@ -96,12 +96,8 @@ pub fn set_mem_wb(n: &mut [u32; 192], at: usize, l: MemWb) {
     set(n, at, 3, of_dest(dest));
     set_flag(n, at, 4, l.writeback);
     set(n, at, 5, l.value);
-    set_flag(n, at, 6, l.halt);
-    set_flag(n, at, 7, l.iret);
-    set_flag(n, at, 8, l.cpuid);
-    set_flag(n, at, 9, l.branch_taken);
-    set(n, at, 10, l.branch_target);
-    set(n, at, 11, of_new_mode(new_mode));
+    set_three_flags(n, at, 6, l.halt, l.iret, l.cpuid);
+    set_branch(n, at, 9, l.branch_taken, l.branch_target, new_mode);
     set(n, at, 12, of_exception(exception));
     set_mtsr(n, at, 13, mtsr);
 }

@@ -28,13 +28,13 @@ fn set_registers(n: &mut [u32; 192], reg: [u32; 32]) {
 
 fn set_latches(n: &mut [u32; 192], s: Stages) {
     let if_id = s.if_id;
-    let id_ex = s.id_ex;
-    let ex_mem = s.ex_mem;
-    let mem_wb = s.mem_wb;
     set_if_id(n, 40, if_id);
-    set_id_ex(n, 48, id_ex);
-    set_ex_mem(n, 66, ex_mem);
+    let mem_wb = s.mem_wb;
     set_mem_wb(n, 93, mem_wb);
+    let id_ex = s.id_ex;
+    set_id_ex(n, 48, id_ex);
+    let ex_mem = s.ex_mem;
+    set_ex_mem(n, 66, ex_mem);
 }
 
 fn set_place(n: &mut [u32; 192], at: usize, p: Place) {
@@ -66,11 +66,11 @@ fn set_counts(n: &mut [u32; 192], s: Counters) {
 
 pub fn set_state(n: &mut [u32; 192], s: PipelineCpu) {
     let reg = s.reg;
-    let stages = s.stages;
-    let counts = s.counts;
     set_registers(n, reg);
-    set_stages(n, stages);
+    let counts = s.counts;
     set_counts(n, counts);
+    let stages = s.stages;
+    set_stages(n, stages);
 }
 
 fn set_fetch(n: &mut [u32; 192], f: Fetch) {

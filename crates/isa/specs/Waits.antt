@@ -1,19 +1,70 @@
--- Waits, used loads and prediction, read off an instruction's operands.
+-- Multiplies and divides by their names; waits, used loads and prediction, read off an instruction's operands.
 use Prim.Native.Nat.{_-_, _^_, ℕ}
 use lib.Dec.{eqb, ltb}
-use mathlib.Core.Bool.{Bool, _&&_, _||_, cond, false, not}
+use mathlib.Core.Bool.{Bool, _&&_, _||_, cond, false, not, true}
 use Rattle.word.specs.Words.{add32}
 use Rattle.isa.specs.Effect.{fall}
-use Rattle.isa.specs.Names.{Decoded, Dest, Mode, Next, NoDest, Operands, Redirect, Reg, To}
-use Rattle.isa.specs.Operands.{divLatency, mulLatency, operandsOf}
+use Rattle.isa.specs.Names.{Add, Addi, And, Beq, Bne, Cpuid, DecNormal, DecShort, Decoded, Dest, Div, Divu, Halt}
+use Rattle.isa.specs.Names.{Instruction, Iret, Jal, Jalr, Jalrs, Jals, Jmp, Jmps, Jr, Jrs, Ld, Ldb, Ldh, Ldih}
+use Rattle.isa.specs.Names.{Ldil, Mfsr, Mod, Mode, Mtsr, Mul, Mulh, Next, NoDest, Nop, Operands, Or, Redirect}
+use Rattle.isa.specs.Names.{Reg, Sla, Sll, Slt, Sltu, Sra, Srl, St, Stb, Sth, Sub, Syscall, To, Unknown, Xor}
+use Rattle.isa.specs.Operands.{operandsOf}
 
--- multiplies: MUL and MULH
+-- m for the multiplies MUL and MULH, d for the divides DIV, DIVU and MOD, o for every other instruction
+unfoldable pub slowOf : Bool → Bool → Bool → Instruction → Bool
+slowOf m d o = elim [
+  | Mul _ _ _ ↦ m
+  | Mulh _ _ _ ↦ m
+  | Div _ _ _ ↦ d
+  | Divu _ _ _ ↦ d
+  | Mod _ _ _ ↦ d
+  | Nop ↦ o
+  | Ld _ _ _ ↦ o
+  | St _ _ _ ↦ o
+  | Add _ _ _ ↦ o
+  | Addi _ _ _ ↦ o
+  | Sub _ _ _ ↦ o
+  | Slt _ _ _ ↦ o
+  | Beq _ _ _ ↦ o
+  | Bne _ _ _ ↦ o
+  | Jmp _ ↦ o
+  | Jal _ ↦ o
+  | Jr _ ↦ o
+  | Jmps _ ↦ o
+  | Jals _ ↦ o
+  | Jrs _ ↦ o
+  | Jalr _ ↦ o
+  | Jalrs _ ↦ o
+  | Cpuid ↦ o
+  | Halt ↦ o
+  | And _ _ _ ↦ o
+  | Or _ _ _ ↦ o
+  | Xor _ _ _ ↦ o
+  | Sll _ _ _ ↦ o
+  | Srl _ _ _ ↦ o
+  | Sla _ _ _ ↦ o
+  | Sra _ _ _ ↦ o
+  | Sltu _ _ _ ↦ o
+  | Ldb _ _ _ ↦ o
+  | Ldh _ _ _ ↦ o
+  | Stb _ _ _ ↦ o
+  | Sth _ _ _ ↦ o
+  | Ldil _ _ ↦ o
+  | Ldih _ _ ↦ o
+  | Unknown _ _ ↦ o
+  | Iret ↦ o
+  | Syscall _ ↦ o
+  | Mfsr _ _ ↦ o
+  | Mtsr _ _ ↦ o
+]
+
 unfoldable pub isMul : Decoded → Bool
-isMul i = eqb ((operandsOf i) .latency) mulLatency
+isMul (DecNormal i) = slowOf true false false i
+isMul (DecShort i) = false
 
--- divides: DIV, DIVU and MOD
 unfoldable pub isDiv : Decoded → Bool
-isDiv i = eqb ((operandsOf i) .latency) divLatency
+isDiv (DecNormal i) = slowOf false true false i
+isDiv (DecShort i) = false
 
 -- the ticks that an instruction waits in EX: one less than its latency
 unfoldable pub waits : Decoded → ℕ

@@ -14,10 +14,11 @@
 // - sel: the two words exchanged; the first word always.
 // - read_reg: the word that stands in reg[0] for R0; 0 for R31.
 // - Operands::predict: every conditional branch taken; the offset added to the branch's own address.
-// - Decoded::waits: 16 for a divide (div_waits_16); a wait for DIV and none for MOD.
-// - ShortInstruction::decode_short: LDI at nibble 10 (nibble_10_decoded); JAL's offset unsigned (jal_offset_unsigned).
+// - Decoded::waits: 16 for a divide; a wait for DIV and none for MOD.
+// - ShortInstruction::decode_short: LDI at nibble 10; JAL's offset unsigned.
 // - RawInstr::decoded: halfword F001 as Unknown; NOP for every Normal instruction.
-// - Decoded::operands: LDIL with no source (ldil_source_forgotten); a latency of 4 for MUL (mul_latency_4).
+// - Decoded::operands: LDIL with no source; a latency of 4 for MUL (mul_latency_4);
+//   short ST with its operands exchanged (short_st_operands_swapped).
 // - Dest::in_bounds: 32 in bounds; out of bounds where no destination is named.
 // - Operands::in_bounds: the destination not tested; a source tested only where `n_srcs` counts it.
 // - Instruction::code: 2 for MFSR with a register above 31; 0 for MFSR.

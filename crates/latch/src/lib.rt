@@ -6,7 +6,7 @@
 // - IdEx::invalid: a valid NOP; R0 for its destination.
 // - ExMem::invalid: a valid NOP; a width of 4.
 // - MemWb::invalid: a valid latch; R0 for its destination.
-// - IfId::cleared: the contents reset too (cleared_if_id_reset); the latch left valid.
+// - IfId::cleared: the contents reset too; the latch left valid.
 // - IfId::decode: an invalid latch made of an invalid one; a branch with negative offset predicted taken.
 // - IdEx::of: the word that stands in reg[0] sampled for R0; operand B 0 where fewer than two sources are named.
 // - IdEx::load_is_used: a load to R0 waited for; the second source not compared.
@@ -14,9 +14,9 @@
 // - IdEx::effect: the instruction done although the latch holds an exception; HALT that halts in user mode.
 // - IdEx::ex_mem: an exception that leaves `is_load` as it was; the destination kept where the effect writes nothing.
 // - effect_from: operand A as it was sampled (operand_a_as_sampled);
-//   operand A forwarded only where a source is named (operand_a_only_where_named).
+//   operand A forwarded only where a source is named.
 // - MemWb::forward: CPUID's words before the latch's own value; the value of an invalid latch.
-// - ExMem::forward: the result of a load (load_forwarded_from_ex_mem); the result of an invalid latch.
+// - ExMem::forward: the result of a load; the result of an invalid latch.
 // - operand: MEM/WB before EX/MEM (mem_wb_before_ex_mem); what a latch holds for R0.
 // - IfId::out_of_bounds: an invalid latch let through; an unknown halfword stopped.
 // - IdEx::out_of_bounds: an invalid latch let through; 3 sources let through.
@@ -31,7 +31,6 @@
 // - MemWb::retired_pc: the next address for a taken branch; 4 added in Short mode.
 // - MemWb::retired_mode: the mode of the instruction itself; the change that an invalid latch holds.
 // - MemWb::write_back: a word left in R0; CPUID's words put over the destination's.
-//   Within it put_reg writes R0 (r0_written).
 mod bounds;
 mod decode;
 pub mod execute;

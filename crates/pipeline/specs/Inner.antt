@@ -12,7 +12,7 @@ use Rattle.pipeline.specs.Counting.{counterFull, isFull}
 use Rattle.pipeline.specs.Execute.{executed, redirectOf}
 use Rattle.pipeline.specs.Fetch.{fetchFrom}
 use Rattle.pipeline.specs.Move.{moveFrom}
-use Rattle.pipeline.specs.Names.{Counters, Front, Given, Operands, PipelineCpu, Plan, Refused, Stages, Ticked}
+use Rattle.pipeline.specs.Names.{Accepted, Counters, Front, Given, Operands, PipelineCpu, Plan, Refused, Stages, Ticked}
 use Rattle.pipeline.specs.Names.{beginWait}
 use Rattle.pipeline.specs.Retire.{retireStages}
 use Rattle.pipeline.specs.Tick.{givenTests, handedBack, taken, verdict}
@@ -20,6 +20,10 @@ use Rattle.pipeline.specs.Tick.{givenTests, handedBack, taken, verdict}
 -- a state refused
 unfoldable pub refusedWith : ℕ → PipelineCpu → Ticked
 refusedWith n s = record { state = s; outcome = Refused n }
+
+-- a state of three parts accepted
+unfoldable pub acceptedWith : List ℕ → Stages → Counters → Ticked
+acceptedWith rs l c = record { state = record { reg = rs; stages = l; counts = c }; outcome = Accepted }
 
 -- what is left to test once 11, 12 and 13 do not apply
 unfoldable pub tickedOn : PipelineCpu → Given → Ticked

@@ -148,20 +148,16 @@ impl Stages {
     pub fn advance(self, plan: Plan, taken: Taken, reg: &[u32; 32]) -> Stages
         ensures { λ r. ⌜ r ≡ advancePlan plan self (now (reg .entry)) taken ⌝ }
     {
-        let ex_mem = plan.ex_mem;
-        let place = plan.place;
-        let front = plan.front;
-        let if_id = self.if_id;
         let step = plan.step;
         match step {
-            Move::KeepWaiting => self.keep_waiting(ex_mem, taken),
-            Move::BeginWait => self.begin_wait(ex_mem, taken),
-            Move::LoadUseStall(way) => self.load_use_stall(way, ex_mem, taken),
+            Move::KeepWaiting => self.keep_waiting(plan.ex_mem, taken),
+            Move::BeginWait => self.begin_wait(plan.ex_mem, taken),
+            Move::LoadUseStall(way) => self.load_use_stall(way, plan.ex_mem, taken),
             Move::Proceed => {
-                let id_ex = id_ex_from(if_id, front, reg);
-                self.proceed(ex_mem, id_ex, place, taken)
+                let id_ex = id_ex_from(self.if_id, plan.front, reg);
+                self.proceed(plan.ex_mem, id_ex, plan.place, taken)
             }
-            Move::Redirect(pc, mode) => self.redirect(pc, mode, ex_mem, place, taken),
+            Move::Redirect(pc, mode) => self.redirect(pc, mode, plan.ex_mem, plan.place, taken),
         }
     }
 }

@@ -4,27 +4,26 @@
 // tries one, in the code or in its definition:
 // - PipelineCpu::start: R0 as it was handed in; a retire place of 0.
 // - PipelineCpu::ask: no fetch in a redirecting tick (redirecting_tick_fetches_nothing);
-//   12 for a machine that does not run (refusal_12_when_not_running).
+//   12 for a machine that does not run.
 // - PipelineCpu::tick: EX/MEM kept at a HALT (halt_leaves_ex_mem); a wait one tick longer (wait_one_tick_more).
-//   Also tried: flush_keeps_if_id, predicted_although_redirecting, refusal_3_before_1, running_ticks_when_idle.
+//   Also tried: 4 before 3 (refusal_4_before_3).
 // - id_sources: the base of a store left out; 11 for an unknown halfword.
 // - is_mul_div: the wait, 2 or 15, for the latency; a latency of 0 for any other instruction.
 // - load_use_hazard: a source of 32 let through; a load to R0 waited for.
 // - PipelineCpu::forwarded: 0 for register 32; 12 where MEM/WB holds an exception.
 // - PipelineCpu::execute_ex: an empty EX/MEM for an invalid latch; no redirect where the branch was rightly predicted.
 // - PipelineCpu::decode_id: an invalid latch made of an invalid one; a branch with negative offset predicted taken.
-// - PipelineCpu::retire: MEM/WB emptied; 12 for a machine that does not run (refusal_12_when_not_running).
+// - PipelineCpu::retire: MEM/WB emptied; 12 for a machine that does not run.
 // - Stages::out_of_bounds: an invalid latch not tested; a wait of 15 out of bounds.
-// - Stages::is_faulty: the exception of an invalid latch; 12 for a machine that does not run
-//   (refusal_12_when_not_running).
+// - Stages::is_faulty: the exception of an invalid latch; 12 for a machine that does not run.
 // - Stages::retire: MEM/WB emptied; EX/MEM kept at a HALT (halt_leaves_ex_mem).
 // - Stages::waits_on: true with one tick left; true where no wait is armed.
 // - Stages::wait: EX/MEM kept; the ticks left not counted down.
 // - Stages::plan: the wait of a multiply begun again although it has just ended; a prediction followed although the
-//   tick redirects (predicted_although_redirecting).
+//   tick redirects.
 // - Stages::fetches: no fetch in a redirecting tick (redirecting_tick_fetches_nothing); a fetch after a HALT.
 // - Stages::wants_load: the load behind a HALT; the load of an invalid EX/MEM.
-// - Stages::advance: IF/ID kept by a redirect (flush_keeps_if_id); the front end moved on behind a used load.
+// - Stages::advance: IF/ID kept by a redirect; the front end moved on behind a used load.
 // - Counters::is_full: true one below the top; the flushes not tested.
 // - Counters::count: a flush counted as a stall; a full counter that starts again at 0.
 mod advance;

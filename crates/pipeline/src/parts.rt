@@ -8,10 +8,10 @@ use crate::Execution;
 use crate::Forwarded;
 use crate::Hazard;
 use crate::MulDiv;
-use crate::Outcome;
 use crate::PipelineCpu;
 use crate::Sources;
 use crate::Ticked;
+use crate::tick::accepted;
 use isa::Decoded;
 use latch::IdEx;
 use latch::IfId;
@@ -66,26 +66,24 @@ impl PipelineCpu {
     pub fn forwarded(self, r: u8) -> Forwarded
         ensures { λ v. ⌜ v ≡ forwardedPart self r ⌝ }
     {
+        let reg = self.reg;
         let l = self.stages;
         if l.out_of_bounds() | (31 < r) {
             return Forwarded::Refused(11);
         }
-        let x = l.ex_mem;
-        let m = l.mem_wb;
-        Forwarded::Word(operand(x, m, l.features, &self.reg, r))
+        Forwarded::Word(operand(l.ex_mem, l.mem_wb, l.features, &reg, r))
     }
 
     // The next EX/MEM of a latch and the way that its instruction goes.
     pub fn execute_ex(self, d: IdEx) -> Executed
         ensures { λ r. ⌜ r ≡ executePart self d ⌝ }
     {
+        let reg = self.reg;
         let l = self.stages;
         if l.out_of_bounds() | d.out_of_bounds() {
             return Executed::Refused(11);
         }
-        let x = l.ex_mem;
-        let m = l.mem_wb;
-        let e = effect_from(l.user, x, m, l.features, &self.reg, d);
+        let e = effect_from(l.user, l.ex_mem, l.mem_wb, l.features, &reg, d);
         let redirect = e.redirect;
         Executed::Done(Execution {
             ex_mem: d.ex_mem(e),
@@ -97,11 +95,12 @@ impl PipelineCpu {
     pub fn decode_id(self, f: IfId) -> DecodedId
         ensures { λ r. ⌜ r ≡ decodePart self f ⌝ }
     {
+        let reg = self.reg;
         let l = self.stages;
         if l.out_of_bounds() | f.out_of_bounds() {
             return DecodedId::Refused(11);
         }
-        DecodedId::Latch(f.decode(&self.reg))
+        DecodedId::Latch(f.decode(&reg))
     }
 
     // The state after the retirement of MEM/WB; a refused one is handed back as it was.
@@ -118,13 +117,6 @@ impl PipelineCpu {
         let mut reg = self.reg;
         let stages = l.retire(&mut reg);
         let counts = c.retire(m.valid);
-        Ticked {
-            state: PipelineCpu {
-                reg,
-                stages,
-                counts,
-            },
-            outcome: Outcome::Accepted,
-        }
+        accepted(reg, stages, counts)
     }
 }

@@ -5,11 +5,12 @@ ghost use Rattle.pipeline.specs.Advance.{awake};
 ghost use Rattle.pipeline.specs.Ask.{loadsIn, wantLoad};
 ghost use Rattle.pipeline.specs.Counting.{counterFull};
 ghost use Rattle.pipeline.specs.Fetch.{fetches};
-ghost use Rattle.pipeline.specs.Inner.{Retired, refusedWith, tickedOn};
+ghost use Rattle.pipeline.specs.Inner.{Retired, acceptedWith, refusedWith, tickedOn};
 ghost use Rattle.pipeline.specs.Move.{waitsOn};
 ghost use Rattle.pipeline.specs.Plans.{planFetches};
 ghost use Rattle.pipeline.specs.Tick.{rawOf, taken, ticked, wordIn};
 use crate::Answer;
+use crate::Counters;
 use crate::Given;
 use crate::Move;
 use crate::Offer;
@@ -92,6 +93,20 @@ impl Given {
     }
 }
 
+// The state of three parts, accepted.
+pub(crate) fn accepted(reg: [u32; 32], stages: Stages, counts: Counters) -> Ticked
+    ensures { λ r. ⌜ r ≡ acceptedWith reg stages counts ⌝ }
+{
+    Ticked {
+        state: PipelineCpu {
+            reg,
+            stages,
+            counts,
+        },
+        outcome: Outcome::Accepted,
+    }
+}
+
 impl PipelineCpu {
     pub(crate) fn refused(self, n: u32) -> Ticked
         ensures { λ r. ⌜ r ≡ refusedWith n self ⌝ }
@@ -134,14 +149,7 @@ impl PipelineCpu {
         }
         let stages = s.wait(t.taken());
         let counts = c.count(m.valid, Move::KeepWaiting);
-        Ticked {
-            state: PipelineCpu {
-                reg,
-                stages,
-                counts,
-            },
-            outcome: Outcome::Accepted,
-        }
+        accepted(reg, stages, counts)
     }
 
     // No wait goes on: plan, test what is given, advance, count.
@@ -162,14 +170,7 @@ impl PipelineCpu {
         }
         let stages = s.advance(plan, t.taken(), &reg);
         let counts = c.count(m.valid, step);
-        Ticked {
-            state: PipelineCpu {
-                reg,
-                stages,
-                counts,
-            },
-            outcome: Outcome::Accepted,
-        }
+        accepted(reg, stages, counts)
     }
 
     // A tick that moves: retire; then a wait goes on, or the tick is planned.

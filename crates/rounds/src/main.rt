@@ -1,8 +1,5 @@
 // Runs a sheet so many times from the start of RULES 20.1, and writes the sum of the ticks used. Standard input:
 // rounds and tick limit, four bytes each, high byte first, then the sheet.
-mod decimal;
-
-use crate::decimal::write_number;
 use isa::Mode;
 use pipeline::PipelineCpu;
 
@@ -55,13 +52,18 @@ fn count_up(answers: &mut [u32]) {
     }
 }
 
+fn print_line(n: u32) {
+    io::print_decimal(libc::STDOUT_FILENO, n as u64);
+    io::write_all(libc::STDOUT_FILENO, b"\n");
+}
+
 fn play(buf: &mut [u8], answers: &mut [u32]) {
     let n = io::read_full(libc::STDIN_FILENO, buf);
     count_up(answers);
     if 8 <= n && n <= buf.len() {
         let rounds = number(buf, 0);
         let limit = number(buf, 4);
-        write_number(total(rounds, limit, &buf[8..n], answers));
+        print_line(total(rounds, limit, &buf[8..n], answers));
     }
 }
 

@@ -35,7 +35,7 @@ use Rattle.pipeline.specs.Turn.{reply}
 use Rattle.sheet.specs.Records.{both, farOf, halfOf, jumpOf, lineIf, offsetOf, plainOf, recordOf, threeOf, within}
 use Rattle.sheet.specs.Records.{zeros}
 use Rattle.sheet.specs.Sheet.{badLength, codeAt, firstCode, lineOffer, offerAt, offerIn, pairOffer, recordAt}
-use Rattle.sheet.specs.Sheet.{recordCode, sheetCode, unknownOf}
+use Rattle.sheet.specs.Sheet.{firstRefused, recordCode, sheetCode, unknownOf}
 use Rattle.sheet.specs.Turns.{turnBy}
 use Rattle.word.proofs.Rows.{rows as arithmetic}
 use Rattle.word.specs.Words.{add32, and32, bit, div32, divu32, ldih32, ldil32, mod32, mul32, mulh32, offset32, or32}
@@ -51,7 +51,7 @@ unfolding bit add32 sub32 offset32 and32 or32 xor32 sll32 srl32 sra32 slt32 sltu
     okOperands isTo targetOr modeOr newModeOr isException isMtsr instructionCode rawCode decodedCode isOf isReg
     readReg putReg isDest isNamed nibble lowBits shortBy decodeShort decodedOf waits isUsed isNegative predictBy
     predict both zeros lineIf plainOf threeOf offsetOf halfOf jumpOf farOf within recordOf recordAt unknownOf
-    lineOffer pairOffer offerIn offerAt recordCode codeAt firstCode badLength sheetCode turnBy badWidth badIfId
+    lineOffer pairOffer offerIn offerAt recordCode codeAt firstRefused firstCode badLength sheetCode turnBy badWidth badIfId
     badIdEx badExMem badMemWb idExBy idExOf decodePredicted loadUse effectIn exMemOf mispredict operandB effectFrom
     cpuidWord fromMemWb fromExMem forwardFrom emptyIfId emptyIdEx emptyExMem emptyMemWb cleared loads stores destAfter
     writesAfter valueAfter passedOn memWbOf halts retireReg retireCpuid retiredRegs retiredPc retiredMode isFaulty
@@ -71,8 +71,15 @@ rows = record {
   loop = refl;
   branch = refl;
   divide = refl;
+  high = refl;
+  unsigned = refl;
+  remainder = refl;
+  zero = refl;
+  lower = refl;
+  notEqual = refl;
   behind = refl;
   short = refl;
   empty = refl;
+  widths = refl;
   arithmetic = arithmetic;
 }

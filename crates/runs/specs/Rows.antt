@@ -1,9 +1,10 @@
 -- The rows of RULES 22.1, run from their sheets' bytes: one table, one claim.
 use Prim.Native.Nat.{ℕ}
 use lib.ListN.{getD, replicate}
-use mathlib.Core.Bool.{false}
-use mathlib.Core.List.{List, [], _∷_}
+use mathlib.Core.Bool.{false, true}
+use mathlib.Core.List.{List, [], _∷_, map}
 use mathlib.Core.Path.{_≡_}
+use Rattle.latch.specs.Bounds.{badWidth}
 use Rattle.pipeline.specs.Start.{fresh}
 use Rattle.word.specs.Rows.{Rows as Arithmetic}
 use Rattle.runs.specs.Names.{End, EndRefused, Halted, Loads, Normal, Ran, Spent}
@@ -53,6 +54,29 @@ pub record Rows : Type 0 where
   pub divide : row (
       0x1D ∷ 0x02 ∷ 0x01 ∷ 0x00 ∷ 0x00 ∷  -- DIV R2,R1,R0
       haltSheet) 1000000 [] 2 ≡ (Halted, 21 ∷ 2 ∷ 15 ∷ 0 ∷ 0 ∷ [])
+  pub high : row (
+      0x1C ∷ 0x02 ∷ 0x01 ∷ 0x01 ∷ 0x00 ∷  -- MULH R2,R1,R1
+      haltSheet) 1000000 [] 2 ≡ (Halted, 8 ∷ 2 ∷ 2 ∷ 0 ∷ 0 ∷ [])
+  pub unsigned : row (
+      0x1E ∷ 0x02 ∷ 0x01 ∷ 0x00 ∷ 0x00 ∷  -- DIVU R2,R1,R0
+      haltSheet) 1000000 [] 2 ≡ (Halted, 21 ∷ 2 ∷ 15 ∷ 0 ∷ 0 ∷ [])
+  pub remainder : row (
+      0x1F ∷ 0x02 ∷ 0x01 ∷ 0x00 ∷ 0x00 ∷  -- MOD R2,R1,R0
+      haltSheet) 1000000 [] 2 ≡ (Halted, 21 ∷ 2 ∷ 15 ∷ 0 ∷ 0 ∷ [])
+  -- NOP names R0 as its sources, and no load of R0 is used
+  pub zero : row (
+      0x21 ∷ 0x00 ∷ 0x00 ∷ 0x00 ∷ 0x00 ∷  -- LD R0,R0+0
+      0x00 ∷ 0x00 ∷ 0x00 ∷ 0x00 ∷ 0x00 ∷  -- NOP
+      haltSheet) 1000000 (21 ∷ []) 0 ≡ (Halted, 7 ∷ 3 ∷ 0 ∷ 0 ∷ 0 ∷ [])
+  -- LDIL reads its own register
+  pub lower : row (
+      0x21 ∷ 0x01 ∷ 0x00 ∷ 0x00 ∷ 0x00 ∷  -- LD R1,R0+0
+      0x30 ∷ 0x01 ∷ 0x00 ∷ 0x00 ∷ 0x05 ∷  -- LDIL R1,5
+      haltSheet) 1000000 (0x70000 ∷ []) 1 ≡ (Halted, 8 ∷ 3 ∷ 1 ∷ 0 ∷ 0x70005 ∷ [])
+  -- not taken, forward: as guessed
+  pub notEqual : row (
+      0x28 ∷ 0x00 ∷ 0x00 ∷ 0x00 ∷ 0x04 ∷  -- BNE R0,R0,4
+      haltSheet) 1000000 [] 0 ≡ (Halted, 6 ∷ 2 ∷ 0 ∷ 0 ∷ 0 ∷ [])
   pub behind : row (
       0x02 ∷ 0x00 ∷ 0x00 ∷ 0x00 ∷ 0x00 ∷  -- HALT
       0x1B ∷ 0x01 ∷ 0x01 ∷ 0x01 ∷ 0x00 ∷  -- MUL R1,R1,R1
@@ -63,5 +87,8 @@ pub record Rows : Type 0 where
       haltSheet) 1000000 [] 2 ≡ (Halted, 12 ∷ 4 ∷ 0 ∷ 2 ∷ 7 ∷ [])
   -- the empty sheet offers Unknown 0 everywhere
   pub empty : row [] 1000000 [] 0 ≡ (EndRefused 12, 4 ∷ 0 ∷ 0 ∷ 0 ∷ 0 ∷ [])
+  -- of the widths 0 to 5 and 8, those that no access has
+  pub widths : map badWidth (0 ∷ 1 ∷ 2 ∷ 3 ∷ 4 ∷ 5 ∷ 8 ∷ []) ≡ (
+      false ∷ false ∷ false ∷ true ∷ false ∷ true ∷ true ∷ [])
   -- -7 DIV 2, -7 MOD 2, MULH of 80000000 twice, SRA of 80000000 by 33
   pub arithmetic : Arithmetic

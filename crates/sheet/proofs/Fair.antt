@@ -3,7 +3,7 @@ use Prim.Native.Nat.{_%_, _*_, _+_, _/_, _<_, _≤_, suc, zero, ℕ}
 use borrow.Author.Tests.{ltb-false, ltb-true}
 use lib.Dec.{eqb, ltb}
 use lib.ListN.{length}
-use mathlib.Core.Bool.{cond, true}
+use mathlib.Core.Bool.{true}
 use mathlib.Core.List.{List}
 use mathlib.Core.Logic.{_⊎_, inl, inr}
 use mathlib.Core.Path.{_≡_, refl}
@@ -12,30 +12,47 @@ use Rattle.isa.proofs.Bools.{split}
 use Rattle.isa.specs.Operands.{bare, okDest, okOperands, operandsN, plain}
 use Rattle.isa.specs.Refusals.{instructionCode, isOf, rawCode}
 use Rattle.sheet.specs.Names.{Line, Mode, NoRecord, Normal, Pair, RawInstr, Record, Short}
-use Rattle.sheet.specs.Sheet.{badLength, codeAt, firstCode, lineOffer, offerAt, offerIn, pairOffer, recordAt}
-use Rattle.sheet.specs.Sheet.{recordCode, sheetCode, unknownOf}
+use Rattle.sheet.specs.Sheet.{badLength, codeAt, firstCode, firstRefused, lineOffer, offerAt, offerIn}
+use Rattle.sheet.specs.Sheet.{pairOffer, recordAt, recordCode, sheetCode, unknownOf}
 
 -- what is fair to offer at each address p and mode m: an instruction of the mode, which 1 and 2 do not refuse
 pub record Fair (raw : ℕ → Mode → RawInstr) : Type 0 where
   pub kind : (p : ℕ) (m : Mode) → isOf m (raw p m) ≡ true
   pub code : (p : ℕ) (m : Mode) → rawCode (raw p m) ≡ 0
 
+-- the first refused record of so many has a code, and none before it has one
+pub first-le : (l : List ℕ) (k n : ℕ) → firstRefused l k n ≤ k + n
+unfolding firstRefused
+first-le l k zero = omega arith
+first-le l k (suc n) = split (ltb 0 (codeAt l k)) (λ t. rw t (omega arith))
+    (λ t. rw t (omega (arith, first-le l (suc k) n)))
+
+first-has : (l : List ℕ) (k n : ℕ) → firstRefused l k n < k + n → 0 < codeAt l (firstRefused l k n)
+unfolding firstRefused
+first-has l k zero h = absurd (omega arith)
+first-has l k (suc n) h = split (ltb 0 (codeAt l k))
+    (λ t. rw t (ltb-true 0 (codeAt l k) t))
+    (λ t. let g : firstRefused l (suc k) n < k + suc n = rw t at h in
+    rw t (first-has l (suc k) n (omega arith)))
+
+none-before : (l : List ℕ) (k n j : ℕ) → k ≤ j → j < firstRefused l k n → codeAt l j ≡ 0
+unfolding firstRefused
+none-before l k zero j p q = absurd (omega arith)
+none-before l k (suc n) j p q = split (ltb 0 (codeAt l k))
+    (λ t. let g : j < k = rw t at q in absurd (omega arith))
+    (λ t. split (ltb k j)
+    (λ u. let h : k < j = ltb-true k j u in none-before l (suc k) n j (omega arith) (rw t at q))
+    (λ u. let h : j ≡ k = omega (arith, ltb-false k j u) in rw h (omega (arith, ltb-false 0 (codeAt l k) t))))
+
 -- where there is no first code, no record has one
-clear : (x r : ℕ) → cond (ltb 0 x) x r ≡ 0 → (x ≡ 0) × (r ≡ 0)
-clear x r e = split (ltb 0 x)
-    (λ t. absurd (omega (arith, ltb-true 0 x t, rw t at e)))
-    (λ t. (omega (arith, ltb-false 0 x t), rw t at e))
-
-no-code : (l : List ℕ) (k n j : ℕ) → firstCode l k n ≡ 0 → k ≤ j → j < k + n → codeAt l j ≡ 0
+no-code : (l : List ℕ) (n j : ℕ) → firstCode l n ≡ 0 → j < n → codeAt l j ≡ 0
 unfolding firstCode
-no-code l k zero j e p q = absurd (omega arith)
-no-code l k (suc n) j e p q = split (ltb k j)
-    (λ t. let h : k < j = ltb-true k j t in
-    no-code l (suc k) n j (clear (codeAt l k) (firstCode l (suc k) n) e .1) (omega arith) (omega arith))
-    (λ t. let h : j ≡ k = omega (arith, ltb-false k j t) in
-    rw h (clear (codeAt l k) (firstCode l (suc k) n) e .0))
+no-code l n j e q = split (ltb (firstRefused l 0 n) n)
+    (λ t. let h : firstRefused l 0 n < 0 + n = omega (arith, ltb-true (firstRefused l 0 n) n t) in
+    let g : codeAt l (firstRefused l 0 n) ≡ 0 = rw t at e in absurd (omega (arith, first-has l 0 n h)))
+    (λ t. none-before l 0 n j (omega arith) (omega (arith, ltb-false (firstRefused l 0 n) n t)))
 
-first : (l : List ℕ) → sheetCode l ≡ 0 → firstCode l 0 (length l / 5) ≡ 0
+first : (l : List ℕ) → sheetCode l ≡ 0 → firstCode l (length l / 5) ≡ 0
 unfolding sheetCode
 first l e = split (badLength (length l))
     (λ t. let z : _≡_ {A = ℕ} 6 0 = rw t at e in absurd (omega arith))
@@ -46,7 +63,7 @@ pub fair-record : (l : List ℕ) → sheetCode l ≡ 0 → (k : ℕ) → (record
 unfolding codeAt recordAt
 fair-record l e k = split (ltb (k * 5 + 4) (length l))
     (λ t. let h : k * 5 + 4 < length l = ltb-true _ _ t in
-    inl (no-code l 0 (length l / 5) k (first l e) (omega arith) (omega arith)))
+    inl (no-code l (length l / 5) k (first l e) (omega arith)))
     (λ t. inr (rw t))
 
 -- what a record offers is of the mode that is asked for

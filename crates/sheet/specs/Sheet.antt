@@ -52,10 +52,14 @@ recordCode (Pair h g) = 0
 unfoldable pub codeAt : List ℕ → ℕ → ℕ
 codeAt l k = recordCode (recordAt l k)
 
--- the first code among n records from record k on
-unfoldable pub firstCode : List ℕ → ℕ → ℕ → ℕ
-firstCode l k zero = 0
-firstCode l k (suc n) = cond (ltb 0 (codeAt l k)) (codeAt l k) (firstCode l (suc k) n)
+-- the first of n records from record k on that has a code; k + n where none has
+unfoldable pub firstRefused : List ℕ → ℕ → ℕ → ℕ
+firstRefused l k zero = k
+firstRefused l k (suc n) = cond (ltb 0 (codeAt l k)) k (firstRefused l (suc k) n)
+
+-- its code among the first n records, 0 where none has one
+unfoldable pub firstCode : List ℕ → ℕ → ℕ
+firstCode l n = cond (ltb (firstRefused l 0 n) n) (codeAt l (firstRefused l 0 n)) 0
 
 -- 6: a length that is no multiple of 5, or above 20,480 bytes
 unfoldable pub badLength : ℕ → Bool
@@ -63,4 +67,4 @@ badLength n = not (eqb (n % 5) 0) || ltb 20480 n
 
 -- the refusal of a whole sheet, 0 for none
 unfoldable pub sheetCode : List ℕ → ℕ
-sheetCode l = cond (badLength (length l)) 6 (firstCode l 0 (length l / 5))
+sheetCode l = cond (badLength (length l)) 6 (firstCode l (length l / 5))

@@ -1,6 +1,6 @@
 // The check of a whole sheet.
 ghost use mathlib.Core.Path.{_≡_};
-ghost use Rattle.sheet.specs.Sheet.{badLength, firstCode, recordCode, sheetCode};
+ghost use Rattle.sheet.specs.Sheet.{badLength, codeAt, firstCode, firstRefused, recordCode, sheetCode};
 use crate::Record;
 use crate::offer::record_at;
 
@@ -17,17 +17,34 @@ impl Record {
     }
 }
 
-// The first code among so many records.
-fn first_code(sheet: &[u8], count: u32) -> u32
-    ensures { λ r. ⌜ r ≡ firstCode (now (sheet .entry)) 0 count ⌝ }
+// The code of record k.
+fn code_at(sheet: &[u8], k: u32) -> u32
+    ensures { λ r. ⌜ r ≡ codeAt (now (sheet .entry)) k ⌝ }
+{
+    record_at(sheet, k).code()
+}
+
+// The first of so many records that has a code; their number where none has.
+pub fn first_refused(sheet: &[u8], count: u32) -> u32
+    ensures { λ r. ⌜ r ≡ firstRefused (now (sheet .entry)) 0 count ⌝ }
 {
     let mut k: u32 = 0;
     while k < count {
-        let c = record_at(sheet, k).code();
-        if 0 < c {
-            return c;
+        if 0 < code_at(sheet, k) {
+            return k;
         }
         k += 1;
+    }
+    k
+}
+
+// The first code among so many records.
+fn first_code(sheet: &[u8], count: u32) -> u32
+    ensures { λ r. ⌜ r ≡ firstCode (now (sheet .entry)) count ⌝ }
+{
+    let k = first_refused(sheet, count);
+    if k < count {
+        return code_at(sheet, k);
     }
     0
 }

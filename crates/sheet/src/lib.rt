@@ -2,6 +2,7 @@
 //
 // Wrong programs that the promises rule out, for each function two:
 // - check: 1 for a record with a register above 31 and an unused byte not zero; 20,485 bytes accepted.
+// - first_refused: a record with an unused byte not zero passed over; the last refused record.
 // - offer_at: the second halfword of a pair at its first address; a NOP outside the sheet.
 // - turn_by: spent before halted; loads before refused 12.
 pub mod check;

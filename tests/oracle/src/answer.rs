@@ -7,7 +7,7 @@ use std::io::{BufRead, Error, Result, Write};
 
 /// Reads case lines to the end of the input and writes the result lines.
 pub fn run(input: impl BufRead, mut output: impl Write) -> Result<()> {
-    let mut answers = Answers::new(None);
+    let mut answers = Answers::new();
     let mut numbers = Vec::new();
     let mut bytes = Vec::new();
     for text in input.lines() {

@@ -2,35 +2,25 @@
 
 use crate::buffers::Buffers;
 use crate::case::Case;
+use crate::cpu_pipeline::harness::arithmetic::{self, Arithmetic};
 use crate::cpu_pipeline::harness::original::Original;
-use crate::cpu_pipeline::harness::wrong::{Judged, Wrong};
+use crate::cpu_pipeline::harness::{operands, short_numbers_of};
 use crate::refusals::{self, NONE, OUT_OF_BOUNDS};
 use crate::row::Row;
 use crate::rows::{Answer, Begin, Decoded, Given, IdEx, IfId, Offer, Seen, State};
-use crate::runner::{self, DOCUMENT_01, Rules};
+use crate::runner;
 
 /// Answers cases one after the other, and holds the state of the list under way and the buffers of runs.
 pub struct Answers {
     original: Original,
+    arithmetic: Arithmetic,
     held: State,
     buffers: Buffers,
-    wrong: Option<&'static Wrong>,
-    rules: Rules,
 }
 
 impl Answers {
-    /// Begins with no list under way, and with a wrong turn to take, if any.
-    pub fn new(wrong: Option<&'static Wrong>) -> Self {
-        Self::of(Original::new(wrong), wrong)
-    }
-
-    /// Begins with no list under way, and with stand-ins where the original itself would do.
-    pub fn forced() -> Self {
-        Self::of(Original::forced(), None)
-    }
-
     /// Begins with no list under way.
-    fn of(mut original: Original, wrong: Option<&'static Wrong>) -> Self {
+    pub fn new() -> Self {
         let nowhere = Begin {
             reg: [0; 32],
             pc: 0,
@@ -38,19 +28,23 @@ impl Answers {
             user: false,
             features: 0,
         };
+        let mut original = Original::fresh();
         let held = original.start(&nowhere);
         Self {
             original,
+            arithmetic: Arithmetic::fresh(),
             held,
             buffers: Buffers::new(),
-            wrong,
-            rules: wrong.map_or(DOCUMENT_01, |wrong| wrong.rules()),
         }
     }
 
     /// Appends the numbers of a case's result line and tells whether it has one.
     pub fn answer(&mut self, case: &Case, out: &mut Vec<u32>) -> bool {
         match case {
+            Case::Arithmetic(given) => self.arithmetic(*given, out),
+            Case::Halfword(halfword) => short_numbers_of(*halfword as u16).put(out),
+            Case::Operands(instruction) => operands::of_normal(*instruction).put(out),
+            Case::ShortOperands(halfword) => operands::of_short(*halfword as u16).put(out),
             Case::Tick(state, offer, answer) => self.tick(state, offer, answer, out),
             Case::Ask(state) => self.ask(state, out),
             Case::Forwarded(state, register) => self.forwarded(state, *register, out),
@@ -71,46 +65,22 @@ impl Answers {
         case.has_a_result()
     }
 
-    /// Does one tick: the code, the state handed back and what asking names before it.
-    pub fn ticked(&mut self, state: &State, offer: &Offer, answer: &Answer) -> (u32, State, Seen) {
-        let standing = self.standing(state, offer);
-        if standing != NONE || refusals::standing(state) != NONE {
-            return (standing, *state, Seen::default());
-        }
-        let (next, seen) = self.original.tick(state, offer, answer);
-        let mut looked = *offer;
-        if let Some(wrong) = self.wrong {
-            wrong.look(&mut state.clone(), &mut looked);
-        }
-        let code = refusals::offered(&looked, answer, &seen);
-        let judged = Judged {
-            state,
-            offer,
-            answer,
-            seen: &seen,
-            code,
-        };
-        let code = self.wrong.map_or(code, |wrong| wrong.code(&judged));
-        (code, if code == NONE { next } else { *state }, seen)
+    /// Answers the arithmetic of one command.
+    fn arithmetic(&mut self, [command, a, b]: [u32; 3], out: &mut Vec<u32>) {
+        arithmetic::answer(&mut self.arithmetic, command, a, b).put(out);
     }
 
-    /// Tells the refusal by where the machine stands, as a wrong turn sees it, if there is one.
-    fn standing(&self, state: &State, offer: &Offer) -> u32 {
-        let Some(wrong) = self.wrong else {
-            return refusals::standing(state);
-        };
-        let mut looked = *state;
-        wrong.look(&mut looked, &mut offer.clone());
-        wrong.code(&Judged {
-            state,
-            offer,
-            answer: &Answer {
-                given: false,
-                word: 0,
-            },
-            seen: &Seen::default(),
-            code: refusals::standing(&looked),
-        })
+    /// Does one tick: the code, the state handed back and what asking names before it.
+    pub fn ticked(&mut self, state: &State, offer: &Offer, answer: &Answer) -> (u32, State, Seen) {
+        match refusals::standing(state) {
+            NONE => {}
+            code => return (code, *state, Seen::default()),
+        }
+        let (next, seen) = self.original.tick(state, offer, answer);
+        match refusals::offered(offer, answer, &seen) {
+            NONE => (NONE, next, seen),
+            code => (code, *state, seen),
+        }
     }
 
     /// Answers a tick.
@@ -132,14 +102,14 @@ impl Answers {
     /// Answers a run of the sheet held.
     fn run(&mut self, state: &State, given: &Given, out: &mut Vec<u32>) {
         let task = self.buffers.task(given);
-        runner::run(&mut self.original, &self.rules, state, &task).put(out);
+        runner::run(&mut self.original, state, &task).put(out);
     }
 
     /// Answers what a tick would ask for.
     fn ask(&mut self, state: &State, out: &mut Vec<u32>) {
-        let code = self.standing(state, &Offer::Nothing);
+        let code = refusals::standing(state);
         code.put(out);
-        if code == NONE && refusals::standing(state) == NONE {
+        if code == NONE {
             self.original.asked(state).put(out);
         } else {
             Seen::default().put(out);
@@ -212,15 +182,10 @@ impl Answers {
 
     /// Answers retirement by itself.
     fn retire(&mut self, state: &State, out: &mut Vec<u32>) {
-        let code = self.standing(state, &Offer::Nothing);
+        let code = refusals::standing(state);
         code.put(out);
         if code == NONE {
-            let next = if refusals::standing(state) == NONE {
-                self.original.retire(state)
-            } else {
-                *state
-            };
-            next.put(out);
+            self.original.retire(state).put(out);
         }
     }
 }

@@ -8,12 +8,18 @@ pub use kind::Kind;
 pub use names::result_names;
 
 use crate::buffers::Block;
+use crate::cpu_pipeline::harness::Numbers;
 use crate::rows::{Answer, Begin, Decoded, Given, IdEx, IfId, Offer, State};
 
 /// One question.
 #[derive(Debug, Clone, Copy, PartialEq, Eq)]
 #[allow(clippy::large_enum_variant)]
 pub enum Case {
+    /// A command and two words.
+    Arithmetic([u32; 3]),
+    Halfword(u32),
+    Operands(Numbers),
+    ShortOperands(u32),
     Tick(State, Offer, Answer),
     Ask(State),
     Forwarded(State, u32),
@@ -33,6 +39,21 @@ pub enum Case {
 }
 
 impl Case {
+    /// Tells whether the result line begins with the number of a refusal, or 0.
+    pub fn has_a_code(&self) -> bool {
+        let without = matches!(
+            self,
+            Case::Arithmetic(_)
+                | Case::Halfword(_)
+                | Case::Operands(_)
+                | Case::ShortOperands(_)
+                | Case::Start(_)
+                | Case::ListShow
+                | Case::Run(..)
+        );
+        self.has_a_result() && !without
+    }
+
     /// Tells whether the case has a result line.
     pub fn has_a_result(&self) -> bool {
         !matches!(

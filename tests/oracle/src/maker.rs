@@ -4,6 +4,7 @@ mod begin;
 mod bounds;
 mod counters;
 mod damage;
+mod fixed;
 mod fuzz;
 mod instruction;
 mod latch;
@@ -12,6 +13,7 @@ mod meeting;
 mod offer;
 mod operands;
 mod part;
+mod plain;
 mod program;
 mod records;
 mod run;
@@ -43,6 +45,10 @@ pub struct Maker {
     held: Buffers,
     records_in_use: u32,
     background: Background,
+    /// Cases made of the kinds that begin with fixed ones.
+    arithmetic_made: u32,
+    halfwords_made: u32,
+    operands_made: u32,
 }
 
 impl Maker {
@@ -50,8 +56,8 @@ impl Maker {
     pub fn new(seed: u64) -> Self {
         Self {
             random: Generator::new(seed),
-            original: Original::new(None),
-            answers: Answers::new(None),
+            original: Original::fresh(),
+            answers: Answers::new(),
             registers: [0; 4],
             words: [0; 3],
             base: 0,
@@ -59,6 +65,9 @@ impl Maker {
             held: Buffers::new(),
             records_in_use: 0,
             background: Background::new(),
+            arithmetic_made: 0,
+            halfwords_made: 0,
+            operands_made: 0,
         }
     }
 
@@ -66,6 +75,9 @@ impl Maker {
     pub fn next(&mut self, kind: Kind, out: &mut Vec<Case>) {
         self.choose_few();
         let case = match kind {
+            Kind::Arithmetic => self.arithmetic(),
+            Kind::Halfwords => self.halfword_to_decode(),
+            Kind::Operands => self.operands(),
             Kind::Tick => self.tick(),
             Kind::Ask => Case::Ask(self.state()),
             Kind::Forwarded => self.forwarded(),

@@ -5,8 +5,8 @@ mod offer;
 mod record;
 
 pub use command::{COMMANDS, PAIR, Shape, of as command};
-pub use offer::{offer, offer_of, record_at};
-pub use record::{Record, read, refuse, write};
+pub use offer::offer;
+pub use record::{Record, refuse, write};
 
 /// Bytes of a record, and of the addresses that it stands for.
 pub const RECORD_BYTES: usize = 5;

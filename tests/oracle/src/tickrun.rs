@@ -2,7 +2,7 @@
 
 use crate::cpu_pipeline::harness::original::Original;
 use crate::rows::{Begin, NORMAL, State};
-use crate::runner::{self, DOCUMENT_01, End, HIGHEST_LIMIT, Run, Task};
+use crate::runner::{self, End, HIGHEST_LIMIT, Run, Task};
 use std::io::{Read, Result, Write};
 
 /// The start of the program, RULES 20.1.
@@ -18,14 +18,14 @@ pub const BEGIN: Begin = Begin {
 pub fn run(mut input: impl Read, mut output: impl Write) -> Result<()> {
     let mut sheet = Vec::new();
     input.read_to_end(&mut sheet)?;
-    let mut original = Original::new(None);
+    let mut original = Original::fresh();
     let state = original.start(&BEGIN);
     let task = Task {
         sheet: &sheet,
         answers: &[],
         limit: HIGHEST_LIMIT,
     };
-    let run = runner::run(&mut original, &DOCUMENT_01, &state, &task);
+    let run = runner::run(&mut original, &state, &task);
     print_counts(&run, &mut output)?;
     print_registers(&run.state, &mut output)?;
     output.flush()

@@ -15,33 +15,6 @@ abbrev μ-loop : tie.MeasureT-loop
 
 pub answer-all-spec : {M : Type 1} → statement M
 answer-all-spec = tie.close (tie.spec Inv-loop μ-loop
-    (λ c κs. search needs)
-    (λ c κs. search needs)
-    (λ c. search needs)
-    (λ c κs. search needs)
-    (λ c κs. search needs)
-    (λ c κs. search needs)
-    (λ c. search needs)
-    (λ c. search needs)
-    (λ c. (
-      search (
-        needs,
-        c .before .before .before .before .before .before .before .before .before .before .before
-            .before .before .before .before .before .before .loop .inv .0,
-        c .slice-known4 .given,
-        c .before .before
-            .before .before .before .before .before .before .before .before .slice-known3 .given,
-      ),
-      search (
-        needs,
-        c .before .before .before .before .before .before .before .before .before .before .before
-            .before .before .before .before .before .before .loop .inv .1,
-        c .slice-known4 .given,
-        c .before .before
-            .before .before .before .before .before .before .before .before .slice-known3 .given,
-      ),
-    ))
-    (λ c κs. search needs)
-    (λ c. search needs)
-    (λ c. search needs)
-    (λ c. search needs))
+    (λ c κs. search needs) (λ c κs. search needs) (λ c. search needs) (λ c κs. search needs) (λ c κs. search needs)
+    (λ c κs. search needs) (λ c. search needs) (λ c. search needs) (λ c. search needs) (λ c κs. search needs)
+    (λ c. search needs) (λ c. search needs) (λ c. search needs))

@@ -3,6 +3,9 @@
 /// What is generated and compared in one run.
 #[derive(Debug, Clone, Copy, PartialEq, Eq)]
 pub enum Kind {
+    Arithmetic,
+    Halfwords,
+    Operands,
     Tick,
     Ask,
     Forwarded,
@@ -19,7 +22,10 @@ pub enum Kind {
 }
 
 /// Every kind with its name.
-const NAMES: [(Kind, &str); 13] = [
+const NAMES: [(Kind, &str); 16] = [
+    (Kind::Arithmetic, "arithmetic"),
+    (Kind::Halfwords, "halfwords"),
+    (Kind::Operands, "operands"),
     (Kind::Tick, "tick"),
     (Kind::Ask, "ask"),
     (Kind::Forwarded, "forwarded"),

@@ -2,6 +2,7 @@
 
 use super::Case;
 use crate::buffers::{ANSWERS, BLOCK_BYTES, BLOCK_WORDS, Block, SHEET_BYTES};
+use crate::cpu_pipeline::harness::{Numbers, operands};
 use crate::row::Row;
 use crate::rows::Given;
 
@@ -9,6 +10,10 @@ impl Case {
     /// Gives the number that a case's line begins with.
     pub fn code(&self) -> u32 {
         match self {
+            Case::Arithmetic(..) => 0x1,
+            Case::Halfword(..) => 0x2,
+            Case::Operands(..) => 0x3,
+            Case::ShortOperands(..) => 0x4,
             Case::Tick(..) => 0x5,
             Case::Ask(..) => 0x6,
             Case::Forwarded(..) => 0x7,
@@ -32,6 +37,9 @@ impl Case {
     pub fn put(&self, out: &mut Vec<u32>) {
         out.push(self.code());
         match self {
+            Case::Arithmetic(given) => given.put(out),
+            Case::Halfword(halfword) | Case::ShortOperands(halfword) => halfword.put(out),
+            Case::Operands(instruction) => instruction.put(out),
             Case::Tick(state, offer, answer) => {
                 state.put(out);
                 put_both(offer, answer, out);
@@ -62,6 +70,10 @@ impl Case {
     /// Reads what stands behind the first number.
     fn read_behind(code: u32, rest: &mut &[u32]) -> Option<Case> {
         Some(match code {
+            0x1 => Case::Arithmetic(Row::take(rest)?),
+            0x2 => Case::Halfword(read_halfword(rest)?),
+            0x3 => Case::Operands(read_instruction(rest)?),
+            0x4 => Case::ShortOperands(read_halfword(rest)?),
             0x5 => Case::Tick(Row::take(rest)?, Row::take(rest)?, Row::take(rest)?),
             0x6 => Case::Ask(Row::take(rest)?),
             0x7 => Case::Forwarded(Row::take(rest)?, Row::take(rest)?),
@@ -87,6 +99,16 @@ impl Case {
 fn put_both(first: &impl Row, second: &impl Row, out: &mut Vec<u32>) {
     first.put(out);
     second.put(out);
+}
+
+/// Reads a halfword.
+fn read_halfword(rest: &mut &[u32]) -> Option<u32> {
+    u32::take(rest).filter(|&halfword| halfword <= 0xffff)
+}
+
+/// Reads a Normal instruction, with registers up to 31.
+fn read_instruction(rest: &mut &[u32]) -> Option<Numbers> {
+    Numbers::take(rest).filter(|&numbers| operands::are_of_an_instruction(numbers))
 }
 
 /// Reads a place in a buffer, up to the last, and what is put there.

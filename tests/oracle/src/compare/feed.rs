@@ -32,7 +32,7 @@ impl Feed {
     pub fn new(kind: Kind, seed: u64) -> Self {
         Self {
             maker: Maker::new(seed),
-            answers: Answers::new(None),
+            answers: Answers::new(),
             kind,
             cases: Vec::new(),
             numbers: Vec::new(),

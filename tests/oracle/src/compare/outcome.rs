@@ -17,7 +17,7 @@ pub enum Outcome {
 impl Outcome {
     /// Reads it off an expected line, unless such a line does not tell.
     pub fn of(expected: &Expected) -> Option<Self> {
-        if matches!(expected.case, Case::Start(_) | Case::ListShow) {
+        if !expected.case.has_a_code() && !matches!(expected.case, Case::Run(..)) {
             return None;
         }
         let line = std::str::from_utf8(&expected.line).ok()?;

@@ -6,7 +6,6 @@ mod feature_word;
 mod from_core;
 mod instruction_numbers;
 mod into_core;
-mod lent;
 pub mod operands;
 pub mod original;
 mod parts;
@@ -14,7 +13,6 @@ mod register_block;
 mod short_numbers;
 mod tick;
 mod unknown_words;
-pub mod wrong;
 
 use super::*;
 

@@ -12,14 +12,11 @@ impl Maker {
     /// Makes a fetched latch, most often in the mode of its instruction.
     pub fn if_id(&mut self) -> IfId {
         let raw = self.raw();
-        let own_mode = match raw {
-            Raw::Normal(_) => NORMAL,
-            Raw::Short(_) => SHORT,
-        };
+        let is_short = matches!(raw, Raw::Short(_));
         IfId {
             valid: self.random.chance(88),
             pc: self.address(),
-            mode: self.mostly(own_mode),
+            mode: self.mostly(if is_short { SHORT } else { NORMAL }),
             raw,
         }
     }

@@ -4,7 +4,7 @@ use super::Maker;
 use crate::buffers::{BLOCK_BYTES, BLOCK_WORDS};
 use crate::case::Case;
 use crate::rows::{Given, State};
-use crate::runner::{self, DOCUMENT_01, Run};
+use crate::runner::{self, Run};
 use crate::sheet::{RECORD_BYTES, Record, write};
 
 impl Maker {
@@ -46,6 +46,6 @@ impl Maker {
     /// Runs what is wanted.
     pub fn try_out(&mut self, state: &State, given: &Given) -> Run {
         let task = self.wanted.task(given);
-        runner::run(&mut self.original, &DOCUMENT_01, state, &task)
+        runner::run(&mut self.original, state, &task)
     }
 }

@@ -1,36 +1,51 @@
 //! The turns of a run, with the original's ticks.
 
-use super::{End, Rules, Run, Task, Turn};
+use super::{End, Run, Task};
 use crate::cpu_pipeline::harness::original::Original;
-use crate::refusals::NONE;
-use crate::rows::{Answer, LOAD, Offer, Seen, State};
+use crate::refusals::{self, BAD_LENGTH, LIMIT_TOO_HIGH, NONE, OUT_OF_BOUNDS};
+use crate::rows::{Answer, LOAD, Seen, State};
+use crate::sheet;
+
+/// The highest tick limit.
+pub const HIGHEST_LIMIT: u32 = 1_000_000;
 
 /// Runs a sheet from a state.
-pub fn run(original: &mut Original, rules: &Rules, state: &State, task: &Task) -> Run {
+pub fn run(original: &mut Original, state: &State, task: &Task) -> Run {
     let mut run = Run::new(state);
-    run.end = match (rules.first)(rules, state, task) {
-        NONE => take_turns(original, rules, task, &mut run),
+    run.end = match refused(state, task) {
+        NONE => take_turns(original, task, &mut run),
         code => End::Refused(code),
     };
-    (rules.report)(state, &mut run);
     run
 }
 
+/// Refuses a bad length, then a bad record, then a limit that is too high, then a state out of bounds.
+fn refused(state: &State, task: &Task) -> u32 {
+    if sheet::length_breaks(task.sheet.len()) {
+        return BAD_LENGTH;
+    }
+    match first_bad_record(task.sheet) {
+        NONE if task.limit > HIGHEST_LIMIT => LIMIT_TOO_HIGH,
+        NONE if refusals::state_breaks(state) => OUT_OF_BOUNDS,
+        code => code,
+    }
+}
+
+/// Gives the refusal of the first record that has one, or none.
+fn first_bad_record(sheet: &[u8]) -> u32 {
+    let (records, _) = sheet.as_chunks();
+    let mut codes = records.iter().map(sheet::refuse);
+    codes.find(|&code| code != NONE).unwrap_or(NONE)
+}
+
 /// Takes turns until the run ends.
-fn take_turns(original: &mut Original, rules: &Rules, task: &Task, run: &mut Run) -> End {
+fn take_turns(original: &mut Original, task: &Task, run: &mut Run) -> End {
     let mut left = task.answers;
     loop {
-        let turn = Turn {
-            state: &run.state,
-            ticks: run.ticks,
-            limit: task.limit,
-            left: left.len(),
-        };
-        if let Some(end) = (rules.turn)(&turn) {
+        if let Some(end) = ended(&run.state, run.ticks, task.limit) {
             return end;
         }
-        let offer = |pc, mode| (rules.offer)(task.sheet, pc, mode);
-        let (next, seen) = fed_tick(original, &run.state, offer, left.first());
+        let (next, seen) = fed_tick(original, &run.state, task.sheet, left.first());
         if seen.request == LOAD {
             let Some((_, rest)) = left.split_first() else {
                 return End::Loads;
@@ -42,11 +57,25 @@ fn take_turns(original: &mut Original, rules: &Rules, task: &Task, run: &mut Run
     }
 }
 
+/// Ends a run that is halted, then one whose limit is used up, then one that stands where it is refused.
+fn ended(state: &State, ticks: u32, limit: u32) -> Option<End> {
+    if !state.running {
+        return Some(End::Halted);
+    }
+    if ticks == limit {
+        return Some(End::Spent);
+    }
+    match refusals::standing(state) {
+        NONE => None,
+        code => Some(End::Refused(code)),
+    }
+}
+
 /// Does one tick with the offer at the fetch place, and does it over if the tick fetches elsewhere.
 fn fed_tick(
     original: &mut Original,
     state: &State,
-    offer: impl Fn(u32, u32) -> Offer,
+    sheet: &[u8],
     word: Option<&u32>,
 ) -> (State, Seen) {
     let answer = Answer {
@@ -54,9 +83,10 @@ fn fed_tick(
         word: word.copied().unwrap_or(0),
     };
     let (pc, mode) = (state.fetch_pc, state.fetch_mode);
-    let (next, seen) = original.tick(state, &offer(pc, mode), &answer);
+    let (next, seen) = original.tick(state, &sheet::offer(sheet, pc, mode), &answer);
     if !seen.fetch || (seen.pc, seen.mode) == (pc, mode) {
         return (next, seen);
     }
-    original.tick(state, &offer(seen.pc, seen.mode), &answer)
+    let offer = sheet::offer(sheet, seen.pc, seen.mode);
+    original.tick(state, &offer, &answer)
 }

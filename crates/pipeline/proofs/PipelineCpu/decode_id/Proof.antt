@@ -13,7 +13,7 @@ decode-id-spec = tie.close (tie.spec
     (λ c κs. search needs)
     (λ c. rw (
       c .decode .ensures,
-      sym (c .before .before .before .before .before .out-of-bounds .ensures),
-      sym (c .before .before .before .before .out-of-bounds2 .ensures),
-      c .before .before .before .if1 .left,
+      sym (c .before .before .before .before .out-of-bounds .ensures),
+      sym (c .before .before .before .out-of-bounds2 .ensures),
+      c .before .before .if1 .left,
     )))

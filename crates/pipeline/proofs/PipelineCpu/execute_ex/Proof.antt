@@ -15,7 +15,7 @@ execute-ex-spec = tie.close (tie.spec
     (λ c. rw (
       c .ex-mem .ensures,
       c .before .effect-from .ensures,
-      sym (c .before .before .before .before .before .before .before .before .out-of-bounds .ensures),
-      sym (c .before .before .before .before .before .before .before .out-of-bounds2 .ensures),
-      c .before .before .before .before .before .before .if1 .left,
+      sym (c .before .before .before .before .before .out-of-bounds .ensures),
+      sym (c .before .before .before .before .out-of-bounds2 .ensures),
+      c .before .before .before .if1 .left,
     )))

@@ -14,6 +14,6 @@ forwarded-spec = tie.close (tie.spec
     (λ c κs. search needs)
     (λ c. rw (
       c .operand .ensures,
-      sym (c .before .before .before .before .before .before .out-of-bounds .ensures),
-      c .before .before .before .before .before .if1 .left,
+      sym (c .before .before .before .out-of-bounds .ensures),
+      c .before .before .if1 .left,
     )))

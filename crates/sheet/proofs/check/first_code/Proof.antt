@@ -1,57 +1,15 @@
--- `sheet::check::first_code` meets its contract. What is left to test answers as the whole does. Assumes nothing.
+-- `sheet::check::first_code` meets its contract. Assumes nothing.
 use borrow.Author.Needs.{needs}
-use Prim.Native.Nat.{_+_, _-_, _<_, _≤_, suc, ℕ}
 use borrow.Author.Tests.{le-ltb, lt-ltb}
-use mathlib.Core.List.{List}
-use mathlib.Core.Path.{_∙_, _≡_, ap, sym}
-use native.Mathlib.Nat.{sub-zero}
-use native.Mathlib.Numerals.{add-one}
-use native.Mathlib.Omega.{arith}
-use Rattle.sheet.specs.Names.{Record}
-use Rattle.sheet.specs.Sheet.{codeAt, firstCode, recordAt, recordCode}
+use mathlib.Core.Path.{sym}
+use Rattle.sheet.specs.Sheet.{firstCode}
 use Rattle.sheet.proofs.check.first_code.Statement.{statement}
 use Rattle.sheet.proofs.check.first_code.Tie as tie
 
--- r is the code of record x, which is record k
-module _ (l : List ℕ) (k n r : ℕ) (x : Record) (e : r ≡ recordCode x) (f : x ≡ recordAt l k) (h : k < n) where
-  read : codeAt l k ≡ r
-  unfolding codeAt
-  read = sym (e ∙ ap recordCode f)
-
-  one-less : n - k ≡ suc (n - (k + 1))
-  one-less = omega arith
-
-  found : 0 < r → r ≡ firstCode l k (n - k)
-  unfolding firstCode
-  found p = rw (one-less, read, lt-ltb 0 r p)
-
-  past : r ≤ 0 → firstCode l k (n - k) ≡ firstCode l (k + 1) (n - (k + 1))
-  unfolding firstCode
-  past p = rw (one-less, read, le-ltb 0 r p, add-one)
-
-done : (l : List ℕ) (k n : ℕ) → n ≤ k → 0 ≡ firstCode l k (n - k)
-unfolding firstCode
-done l k n h = let e : n - k ≡ 0 = omega arith in rw e
-
-abbrev Inv-loop : tie.InvT-loop
-Inv-loop sheet count k₀ k = (k ≤ count) × (firstCode sheet 0 count ≡ firstCode sheet k (count - k))
-
-abbrev μ-loop : tie.MeasureT-loop
-μ-loop sheet count k₀ k = count - k
-
 pub first-code-spec : {M : Type 1} → statement M
-first-code-spec = tie.close (tie.spec Inv-loop μ-loop
-    (λ c. (omega arith, rw sub-zero))
-    (λ c κs. search needs)
-    (λ c κs. search needs)
-    (λ c. found _ _ _ _ _ (c .before .code .ensures) (c .before .before .record-at .ensures) (omega arith)
-    (c .if1 .taken) ∙ sym (c .before .before .before .before .loop .inv .1))
-    (λ c. search needs)
-    (λ c. search needs)
-    (λ c. (
-      omega arith,
-      c .before .before .before .before .loop .inv .1 ∙
-          past _ _ _ _ _ (c .before .code .ensures) (c .before .before .record-at .ensures) (omega arith)
-          (c .if1 .left),
-    ))
-    (λ c. done _ _ _ (omega arith) ∙ sym (c .before .loop .inv .1)))
+unfolding firstCode
+first-code-spec = tie.close (tie.spec
+    (λ c κs. search needs) (λ c κs. search needs)
+    (λ c. rw (sym (c .before .before .first-refused .ensures), lt-ltb _ _ (c .before .if1 .taken))
+    (c .code-at .ensures))
+    (λ c. rw (sym (c .before .first-refused .ensures), le-ltb _ _ (c .if1 .left))))

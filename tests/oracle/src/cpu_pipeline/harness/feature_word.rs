@@ -1,7 +1,16 @@
 //! Puts the state's feature word in place of the original's constant.
 
-use super::lent::Lent;
 use super::{CPU_FEATURES, CPU_ID, PipelineCpu, REG_CPUID, REG_FEATURES, REG_ZERO};
+
+/// A register that holds the word for one tick, and what it held before.
+pub type Lent = Option<(usize, u32)>;
+
+/// Puts the word where MEM/WB's CPUID would write the constant and where EX/MEM's would forward it.
+pub fn put_in_place(core: &mut PipelineCpu, features: u32) -> Lent {
+    settle_mem_wb(core, features);
+    let wanted = core.id_ex.srcs.contains(&REG_FEATURES) && forwards_the_constant(core);
+    wanted.then(|| lend(core, features))
+}
 
 /// Does a valid MEM/WB's CPUID beforehand: the registers get what its retirement writes first.
 pub fn settle_mem_wb(core: &mut PipelineCpu, features: u32) {
@@ -14,15 +23,32 @@ pub fn settle_mem_wb(core: &mut PipelineCpu, features: u32) {
     core.mem_wb.cpuid = false;
 }
 
-/// Lends ID/EX the feature word where EX/MEM's CPUID would forward the constant.
-pub fn lend_to_id_ex(core: &mut PipelineCpu, features: u32, lent: &mut Lent) {
-    if !forwards_the_constant(core) {
-        return;
-    }
-    for place in 0..2 {
-        if core.id_ex.srcs[place] == REG_FEATURES {
-            lent.lend(core, place, features);
+/// Lets ID/EX read the word from a register that nothing else uses, where it reads R2.
+fn lend(core: &mut PipelineCpu, features: u32) -> (usize, u32) {
+    let register = (3..32)
+        .find(|&register| is_free(core, register))
+        .expect("fewer names than registers");
+    for source in &mut core.id_ex.srcs {
+        if *source == REG_FEATURES {
+            *source = register;
         }
+    }
+    let held = std::mem::replace(&mut core.reg[register], features);
+    (register, held)
+}
+
+/// Tells whether no latch reads or writes the register in this tick.
+fn is_free(core: &PipelineCpu, register: usize) -> bool {
+    core.ex_mem.dest != Some(register)
+        && core.mem_wb.dest != Some(register)
+        && !core.id_ex.srcs.contains(&register)
+        && !core.id_sources(&core.if_id).contains(&register)
+}
+
+/// Gives the register back what it held.
+pub fn give_back(core: &mut PipelineCpu, lent: Lent) {
+    if let Some((register, held)) = lent {
+        core.reg[register] = held;
     }
 }
 

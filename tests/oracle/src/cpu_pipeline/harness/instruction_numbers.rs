@@ -42,21 +42,19 @@ fn of_three_registers(instruction: Instruction) -> Numbers {
 
 /// Gives the numbers of an instruction with two registers and a signed immediate.
 fn of_two_registers(instruction: Instruction) -> Numbers {
-    let two = |variant, first: u8, second: u8, immediate: i16| {
-        numbers(variant, &[first.into(), second.into(), signed(immediate)])
+    let (variant, first, second, immediate) = match instruction {
+        Instruction::Ld { rd, base, offset } => (0x01, rd, base, offset),
+        Instruction::St { rd, base, offset } => (0x02, rd, base, offset),
+        Instruction::Addi { rd, rs1, imm } => (0x04, rd, rs1, imm),
+        Instruction::Beq { rs1, rs2, offset } => (0x07, rs1, rs2, offset),
+        Instruction::Bne { rs1, rs2, offset } => (0x08, rs1, rs2, offset),
+        Instruction::Ldb { rd, base, offset } => (0x20, rd, base, offset),
+        Instruction::Ldh { rd, base, offset } => (0x21, rd, base, offset),
+        Instruction::Stb { rd, base, offset } => (0x22, rd, base, offset),
+        Instruction::Sth { rd, base, offset } => (0x23, rd, base, offset),
+        _ => return of_one_field(instruction),
     };
-    match instruction {
-        Instruction::Ld { rd, base, offset } => two(0x01, rd, base, offset),
-        Instruction::St { rd, base, offset } => two(0x02, rd, base, offset),
-        Instruction::Addi { rd, rs1, imm } => two(0x04, rd, rs1, imm),
-        Instruction::Beq { rs1, rs2, offset } => two(0x07, rs1, rs2, offset),
-        Instruction::Bne { rs1, rs2, offset } => two(0x08, rs1, rs2, offset),
-        Instruction::Ldb { rd, base, offset } => two(0x20, rd, base, offset),
-        Instruction::Ldh { rd, base, offset } => two(0x21, rd, base, offset),
-        Instruction::Stb { rd, base, offset } => two(0x22, rd, base, offset),
-        Instruction::Sth { rd, base, offset } => two(0x23, rd, base, offset),
-        _ => of_one_field(instruction),
-    }
+    numbers(variant, &[first.into(), second.into(), signed(immediate)])
 }
 
 /// Gives the numbers of a jump or of an instruction with one register and a halfword.

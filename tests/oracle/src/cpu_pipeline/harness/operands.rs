@@ -1,10 +1,19 @@
 //! What decode puts into the latch, the sources it waits for and the latency.
 
+use super::unknown_words::{UNKNOWN, UnknownWords};
 use super::{Numbers, PipelineCpu, RawInstr, encoding, fetched, fresh_core};
 
-/// Gives the nine numbers of a Normal instruction, or nothing if no word decodes to it.
-pub fn of_normal(numbers: Numbers) -> Option<[u32; 9]> {
-    encoding::word_of(numbers).map(|word| of_raw(RawInstr::Normal(word)))
+/// Tells whether numbers are those of a Normal instruction, with registers up to 31.
+pub fn are_of_an_instruction(numbers: Numbers) -> bool {
+    match numbers.fields {
+        [0..=0xffff, 0..=0xffff, 0] if numbers.variant == UNKNOWN => true,
+        _ => encoding::word_of(numbers).is_some(),
+    }
+}
+
+/// Gives the nine numbers of a Normal instruction.
+pub fn of_normal(numbers: Numbers) -> [u32; 9] {
+    of_raw(RawInstr::Normal(UnknownWords::default().word_of(numbers)))
 }
 
 /// Gives the nine numbers of a short halfword.

@@ -1,25 +1,19 @@
 //! The original, asked about states and latches given as plain numbers within bounds.
 
 use super::unknown_words::UnknownWords;
-use super::wrong::{Hook, Wrong};
 use super::{CPU_FEATURES, PipelineCpu, SystemState, fresh_core, from_core, into_core};
 use crate::cpu_privilege::{CPU_RESERVED_BASE, SR_REGION_BASE};
 use crate::rows::{Begin, State};
 
-/// A core whose fields are set before each question, and a wrong turn to take, if any.
+/// A core whose fields are set before each question.
 pub struct Original {
     pub(super) core: PipelineCpu,
-    /// Holds the state as it was before, for wrong turns.
-    pub(super) earlier: PipelineCpu,
     system: SystemState,
-    pub(super) wrong: Option<&'static Wrong>,
-    /// Stand-ins are used even where the original itself would do.
-    pub(super) forced: bool,
 }
 
 impl Original {
-    /// Makes the cores, with a region in which user mode may do everything.
-    pub fn new(wrong: Option<&'static Wrong>) -> Self {
+    /// Makes the core, with a region in which user mode may do everything.
+    pub fn fresh() -> Self {
         let mut system = SystemState::default();
         let everything = [0, CPU_RESERVED_BASE, 7];
         for (field, value) in (0..).zip(everything) {
@@ -27,18 +21,7 @@ impl Original {
         }
         Self {
             core: fresh_core(),
-            earlier: fresh_core(),
             system,
-            wrong,
-            forced: false,
-        }
-    }
-
-    /// Makes the cores and uses the stand-ins even where the original itself would do.
-    pub fn forced() -> Self {
-        Self {
-            forced: true,
-            ..Self::new(None)
         }
     }
 
@@ -52,38 +35,16 @@ impl Original {
         core.set_instruction_mode(into_core::mode(begin.mode));
         core.retire_mode = core.fetch_mode;
         core.sys.user = begin.user;
-        let mut state = from_core::state(&core, begin.features, &UnknownWords::default());
-        if let Some(Hook::Started(turn)) = self.hook() {
-            turn(begin, &mut state);
-        }
-        state
+        from_core::state(&core, begin.features, &UnknownWords::default())
     }
 
-    /// Sets the core's fields, and the other core's too if a wrong turn may look at them.
+    /// Sets the core's fields.
     pub(super) fn load(&mut self, state: &State, words: &mut UnknownWords) {
         into_core::state(&mut self.core, state, &self.system, words);
-        if self.wrong.is_some() {
-            self.load_earlier(state);
-        }
     }
+}
 
-    /// Sets the other core's fields.
-    pub(super) fn load_earlier(&mut self, state: &State) {
-        let words = &mut UnknownWords::default();
-        into_core::state(&mut self.earlier, state, &self.system, words);
-    }
-
-    /// Gives the feature word to put in place of the original's, unless it is the same.
-    pub(super) fn features(&self, state: &State) -> Option<u32> {
-        let word = match self.hook() {
-            Some(Hook::Features(word)) => *word,
-            _ => state.features,
-        };
-        (self.forced || word != CPU_FEATURES).then_some(word)
-    }
-
-    /// Gives the wrong turn's hook, if there is one.
-    pub(super) fn hook(&self) -> Option<&'static Hook> {
-        self.wrong.map(|wrong| wrong.hook())
-    }
+/// Gives the feature word to put in place of the original's, unless it is the same.
+pub(super) fn other_features(state: &State) -> Option<u32> {
+    (state.features != CPU_FEATURES).then_some(state.features)
 }

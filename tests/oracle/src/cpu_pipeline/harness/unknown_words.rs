@@ -4,7 +4,7 @@ use super::{Instruction, Numbers, PipelineCpu, encoding, instruction_numbers};
 use crate::rows::{Decoded, Offer, Raw, State};
 
 /// Position of Unknown in the enum.
-const UNKNOWN: u32 = 0x26;
+pub const UNKNOWN: u32 = 0x26;
 
 /// A word that the original decodes to Unknown, and so do those behind it.
 const FIRST_WORD: u32 = 0x9800_0000;
@@ -14,13 +14,11 @@ const FIRST_WORD: u32 = 0x9800_0000;
 pub struct UnknownWords {
     in_use: [u32; 4],
     stand_ins: [Option<(u32, Numbers)>; 2],
-    /// Unknown is stood in for even where its own word would do.
-    forced: bool,
 }
 
 impl UnknownWords {
     /// Notes the Unknown words that a tick on this state can meet.
-    pub fn of(state: &State, offer: &Offer, forced: bool) -> Self {
+    pub fn of(state: &State, offer: &Offer) -> Self {
         let normal = |decoded: &Decoded| match decoded {
             Decoded::Normal(instruction) => Some(*instruction),
             Decoded::Short(_) => None,
@@ -38,14 +36,12 @@ impl UnknownWords {
         Self {
             in_use: all.map(|instruction| instruction.map_or(0, payload)),
             stand_ins: [None; 2],
-            forced,
         }
     }
 
     /// Gives the word that decodes to an instruction, or one that stands in for it.
     pub fn word_of(&mut self, instruction: Numbers) -> u32 {
-        let forced = self.forced && instruction.variant == UNKNOWN;
-        if let Some(word) = encoding::word_of(instruction).filter(|_| !forced) {
+        if let Some(word) = encoding::word_of(instruction) {
             return word;
         }
         let known = |word: &u32| self.in_use.contains(word) || self.meant_by(*word).is_some();

@@ -1,0 +1,127 @@
+//! Case lines that need no others: one case, a list from its start on, or a run with all that it is given.
+
+use crate::asked::{self, Asked};
+use crate::buffers::{BLOCK_BYTES, BLOCK_WORDS, Buffers};
+use crate::case::{Case, Kind};
+use crate::line;
+use crate::maker::Maker;
+use crate::rows::Given;
+use crate::turn_answers::TurnAnswers;
+
+/// Bytes that a group weighs besides its text, so that few groups are chosen.
+const WEIGHT: usize = 500;
+
+/// Some lines, and for each of some turns the line at which it is told.
+pub struct Group {
+    pub lines: Vec<Asked>,
+    pub told: Vec<(u32, usize)>,
+}
+
+impl Group {
+    /// Asks the right way about cases.
+    pub fn of(cases: Vec<Case>) -> Self {
+        Self {
+            lines: asked::answered(cases),
+            told: Vec::new(),
+        }
+    }
+
+    /// Notes where a turn is told, if it is.
+    pub fn try_turn(&mut self, number: u32, answers: &mut TurnAnswers) {
+        let place = asked::first_told(answers, &self.lines);
+        self.told.extend(place.map(|place| (number, place)));
+    }
+
+    /// Tells whether a turn is told.
+    pub fn tells(&self, number: u32) -> bool {
+        self.told.iter().any(|&(told, _)| told == number)
+    }
+
+    /// Forgets all turns but some.
+    pub fn keep(&mut self, numbers: &[u32]) {
+        self.told.retain(|(number, _)| numbers.contains(number));
+    }
+
+    /// Leaves out the lines behind a place and the turns that they tell.
+    pub fn cut(&mut self, place: usize) {
+        self.lines.truncate(place + 1);
+        self.told.retain(|&(_, told)| told <= place);
+    }
+
+    /// Gives the best cut of a group: how many turns it tells for its weight, and its place.
+    pub fn best_cut(&self) -> Option<(f64, usize)> {
+        let cuts = self
+            .told
+            .iter()
+            .map(|&(_, place)| (self.worth(place), place));
+        cuts.max_by(|one, other| one.0.total_cmp(&other.0))
+    }
+
+    /// Says how many turns the lines up to a place tell for their weight.
+    fn worth(&self, place: usize) -> f64 {
+        let told = self.told.iter().filter(|&&(_, told)| told <= place).count();
+        let mut text = Vec::new();
+        self.lines[..=place]
+            .iter()
+            .for_each(|line| put(&line.case, &mut text));
+        told as f64 / (text.len() + WEIGHT) as f64
+    }
+}
+
+/// Appends a case's line.
+pub fn put(case: &Case, text: &mut Vec<u8>) {
+    let mut numbers = Vec::new();
+    case.put(&mut numbers);
+    line::put(&numbers, text);
+}
+
+/// A source of groups.
+pub struct Source {
+    maker: Maker,
+    /// What the lines made so far have put into the buffers.
+    held: Buffers,
+}
+
+impl Source {
+    /// Makes a source that gives the same groups for the same seed.
+    pub fn new(seed: u64) -> Self {
+        Self {
+            maker: Maker::new(seed),
+            held: Buffers::new(),
+        }
+    }
+
+    /// Gives the cases of the next group of a kind; runs are small ones if asked for.
+    pub fn next(&mut self, kind: Kind, small: bool) -> Vec<Case> {
+        let mut cases = Vec::new();
+        if small && kind == Kind::Runs {
+            self.maker.next_small_run(&mut cases);
+        } else {
+            self.maker.next(kind, &mut cases);
+        }
+        if let Some(&Case::Run(state, given)) = cases.last() {
+            cases.iter().for_each(|case| self.hold(case));
+            cases = self.puts(&given);
+            cases.push(Case::Run(state, given));
+        }
+        cases
+    }
+
+    /// Puts what a line puts.
+    fn hold(&mut self, case: &Case) {
+        match case {
+            Case::PutSheet(at, block) => self.held.put_sheet(*at, block),
+            Case::PutAnswers(at, block) => self.held.put_answers(*at, block),
+            _ => {}
+        }
+    }
+
+    /// Gives the lines that put all that a run is given.
+    fn puts(&self, given: &Given) -> Vec<Case> {
+        let sheet = (0..given.sheet_length as usize).step_by(BLOCK_BYTES);
+        let answers = (0..given.answer_count as usize).step_by(BLOCK_WORDS);
+        let sheet = sheet.map(|at| Case::PutSheet(at as u32, self.held.sheet_block(at)));
+        let answers = answers.map(|at| Case::PutAnswers(at as u32, self.held.answer_block(at)));
+        sheet.chain(answers).collect()
+    }
+}
