@@ -58,10 +58,12 @@ slowOf m d o = elim [
   | Mtsr _ _ ↦ o
 ]
 
+-- a multiply; no Short instruction is one
 unfoldable pub isMul : Decoded → Bool
 isMul (DecNormal i) = slowOf true false false i
 isMul (DecShort i) = false
 
+-- a divide; no Short instruction is one
 unfoldable pub isDiv : Decoded → Bool
 isDiv (DecNormal i) = slowOf false true false i
 isDiv (DecShort i) = false

@@ -12,8 +12,8 @@ use Rattle.pipeline.specs.Counting.{counterFull, isFull}
 use Rattle.pipeline.specs.Execute.{executed, redirectOf}
 use Rattle.pipeline.specs.Fetch.{fetchFrom}
 use Rattle.pipeline.specs.Move.{moveFrom}
-use Rattle.pipeline.specs.Names.{Accepted, Counters, Front, Given, Operands, PipelineCpu, Plan, Refused, Stages, Ticked}
-use Rattle.pipeline.specs.Names.{beginWait}
+use Rattle.pipeline.specs.Names.{Accepted, Counters, Front, Given, Operands, PipelineCpu, Plan, Refused, Stages}
+use Rattle.pipeline.specs.Names.{Ticked, beginWait}
 use Rattle.pipeline.specs.Retire.{retireStages}
 use Rattle.pipeline.specs.Tick.{givenTests, handedBack, taken, verdict}
 

@@ -3,10 +3,9 @@
 // Wrong programs that the promises rule out, for each function two. A name in brackets is the must-fail edit that
 // tries one, in the code or in its definition:
 // - PipelineCpu::start: R0 as it was handed in; a retire place of 0.
-// - PipelineCpu::ask: no fetch in a redirecting tick (redirecting_tick_fetches_nothing);
-//   12 for a machine that does not run.
-// - PipelineCpu::tick: EX/MEM kept at a HALT (halt_leaves_ex_mem); a wait one tick longer (wait_one_tick_more).
-//   Also tried: 4 before 3 (refusal_4_before_3).
+// - PipelineCpu::ask: no fetch in a redirecting tick; 12 for a machine that does not run.
+// - PipelineCpu::tick: EX/MEM kept at a HALT (halt_leaves_ex_mem); 4 before 3 (refusal_4_before_3); a wait one tick
+//   longer.
 // - id_sources: the base of a store left out; 11 for an unknown halfword.
 // - is_mul_div: the wait, 2 or 15, for the latency; a latency of 0 for any other instruction.
 // - load_use_hazard: a source of 32 let through; a load to R0 waited for.
@@ -21,7 +20,7 @@
 // - Stages::wait: EX/MEM kept; the ticks left not counted down.
 // - Stages::plan: the wait of a multiply begun again although it has just ended; a prediction followed although the
 //   tick redirects.
-// - Stages::fetches: no fetch in a redirecting tick (redirecting_tick_fetches_nothing); a fetch after a HALT.
+// - Stages::fetches: no fetch in a redirecting tick; a fetch after a HALT.
 // - Stages::wants_load: the load behind a HALT; the load of an invalid EX/MEM.
 // - Stages::advance: IF/ID kept by a redirect; the front end moved on behind a used load.
 // - Counters::is_full: true one below the top; the flushes not tested.

@@ -1,8 +1,7 @@
 // The runner: a state, a sheet, load answers and a tick limit in; the end, the ticks used and the state then out.
 //
-// Wrong programs that the promise of `run` rules out, with the must-fail edit that tries one in brackets: ticks
-// reported one off (ticks_one_off); a state after a late refusal that is not the one before the refused tick
-// (late_refusal_forgets_the_registers); 11 before 7; an answer used twice; a halted run reported as spent.
+// Wrong programs that the promise of `run` rules out: ticks reported one off; a state after a late refusal that is not
+// the one before the refused tick; 11 before 7; an answer used twice; a halted run reported as spent.
 ghost use mathlib.Core.Bool.{cond};
 ghost use mathlib.Core.Path.{_≡_};
 ghost use lib.ListN.{getD};
