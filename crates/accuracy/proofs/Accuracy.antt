@@ -10,7 +10,7 @@ use mathlib.Core.Path.{_∙_, _≡_, ap, refl, subst, sym}
 use native.Mathlib.Omega.{arith}
 use Rattle.isa.proofs.Bools.{all3, split}
 use Rattle.isa.proofs.Machine.{walk}
-use Rattle.isa.specs.Machine.{Arch, Machine, Program, first, isEmpty, machine, rest}
+use Rattle.isa.specs.Machine.{Arch, Machine, Program, archWith, first, isEmpty, machine, rest, wholeProgram}
 use Rattle.isa.specs.Short.{decodedOf}
 use Rattle.latch.specs.Latches.{emptyIfId, emptyMemWb}
 use Rattle.latch.specs.Memory.{loads, requests}
@@ -34,9 +34,9 @@ use Rattle.accuracy.proofs.Path.{due}
 use Rattle.accuracy.proofs.Timing.{bound, due-time, time-path}
 use Rattle.accuracy.proofs.Took.{Took, advance-regs, advance-retire-mode, advance-retire-pc, advance-retired}
 use Rattle.accuracy.proofs.Took.{advance-running, offer-is, offer-ok, retire-off, took}
-use Rattle.accuracy.specs.Accuracy.{Demand3, Demand3For, Retires, Run, after, answers, archWith, begin}
-use Rattle.accuracy.specs.Accuracy.{firstOffer, offered, one, oneBy, wholeProgram}
-use Rattle.accuracy.specs.Names.{Given, MemWb, Mode, Move, PipelineCpu, RawInstr, Request, Taken}
+use Rattle.accuracy.specs.Accuracy.{Demand3, Demand3For, Retires, Run, after, answers, begin}
+use Rattle.accuracy.specs.Accuracy.{firstOffer, offered, one, oneBy}
+use Rattle.accuracy.specs.Names.{Given, MemWb, Move, PipelineCpu, RawInstr, Request, Start, Taken}
 
 module _ (prog : Program) (w₀ : Arch) (len : length (w₀ .reg) ≡ 32) (nought : getD (w₀ .reg) 0 0 ≡ 0) where
   pub data Inv (r : Run) (left : List ℕ) (k : ℕ) : Type 0 where
@@ -311,13 +311,13 @@ module _ (prog : Program) (w₀ : Arch) (len : length (w₀ .reg) ≡ 32) (nough
           (λ e. let q = ltb-false (suc k) N e in here-now r t ts k N (omega arith) x)
 
 -- the start, with any list of answers
-pub start-live : (prog : Program) (regs : List ℕ) (pc : ℕ) (mode : Mode) (l : List ℕ)
-    → Live prog (archWith regs pc mode l) (fresh regs pc mode (prog .user) (prog .features)) 0 [] l 0 0 0
+pub start-live : (prog : Program) (v : Start) → v .user ≡ prog .user → v .features ≡ prog .features → (l : List ℕ)
+    → Live prog (archWith v l) (fresh v) 0 [] l 0 0 0
 unfolding fresh archWith walk machine due emptyIfId
-start-live prog regs pc mode l = record {
+start-live prog v eu ef l = record {
   running = refl;
-  features = refl;
-  user = refl;
+  features = ef;
+  user = eu;
   count = refl;
   reg = refl;
   place = (refl, refl);
@@ -332,30 +332,28 @@ start-live prog regs pc mode l = record {
 }
 
 -- the machine fed any list that the ticks feed it, whatever it makes of an answer
-pub demand3-fed : (prog : Program) (regs : List ℕ) (pc : ℕ) (mode : Mode) → length regs ≡ 32 → (ts : List Given)
-    (l : List ℕ)
-    → AllMeet prog (begin regs pc mode (prog .user) (prog .features)) ts
-    → Fed prog (begin regs pc mode (prog .user) (prog .features)) l ts
-    → (N : ℕ) → 1 ≤ N → N ≤ (after (begin regs pc mode (prog .user) (prog .features))
-    ts) .state .counts .«instructions_executed»
-    → Retires prog (archWith regs pc mode l) (begin regs pc mode (prog .user) (prog .features)) ts N
+pub demand3-fed : (prog : Program) (v : Start) → v .user ≡ prog .user → v .features ≡ prog .features
+    → length (v .reg) ≡ 32 → (ts : List Given) (l : List ℕ)
+    → AllMeet prog (begin v) ts
+    → Fed prog (begin v) l ts
+    → (N : ℕ) → 1 ≤ N → N ≤ (after (begin v) ts) .state .counts .«instructions_executed»
+    → Retires prog (archWith v l) (begin v) ts N
 unfolding begin archWith
-demand3-fed prog regs pc mode len ts l off fe N one≤ le =
-    all prog (archWith regs pc mode l) (length-set regs 0 0 ∙ len) (getD-set-same regs 0 0 0 (omega arith)) ts
-    (begin regs pc mode (prog .user) (prog .features)) 0 l
-    (live 0 0 0 (start-live prog regs pc mode l) refl) off fe N one≤ le
+demand3-fed prog v eu ef len ts l off fe N one≤ le =
+    all prog (archWith v l) (length-set (v .reg) 0 0 ∙ len) (getD-set-same (v .reg) 0 0 0 (omega arith)) ts
+    (begin v) 0 l
+    (live 0 0 0 (start-live prog v eu ef l) refl) off fe N one≤ le
 
 -- the machine that takes the list's answers whole
 pub demand3-for : Demand3For
-demand3-for f regs pc mode user features ts len a N one≤ le =
-    let prog = wholeProgram user features f in
-    let r = begin regs pc mode user features in
-    subst (λ (l : List ℕ). Retires prog (archWith regs pc mode l) r ts N) (append-nil _)
-    (demand3-fed prog regs pc mode len ts (answers r ts ++ []) (all-meet prog ts r a)
-    (fed-whole prog (λ w v. refl) ts r [])
+demand3-for f v ts len a N one≤ le =
+    let prog = wholeProgram v f in
+    let r = begin v in
+    subst (λ (l : List ℕ). Retires prog (archWith v l) r ts N) (append-nil _)
+    (demand3-fed prog v refl refl len ts (answers r ts ++ []) (all-meet prog ts r a)
+    (fed-whole prog (λ w x. refl) ts r [])
     N one≤ le)
 
 pub demand3 : Demand3
-demand3 regs pc mode user features ts len a N one≤ le =
-    demand3-for (firstOffer (offered (begin regs pc mode user features) ts)) regs pc mode user features ts len a N one≤
-    le
+demand3 v ts len a N one≤ le =
+    demand3-for (firstOffer (offered (begin v) ts)) v ts len a N one≤ le

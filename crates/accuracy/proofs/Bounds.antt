@@ -33,8 +33,8 @@ use Rattle.pipeline.specs.Tick.{moved, offerCode, rawOf, taken, tick}
 use Rattle.accuracy.proofs.Instructions.{short-ok, sources-in, waits-in, width-in}
 use Rattle.accuracy.proofs.Took.{took}
 use Rattle.accuracy.specs.Names.{Dest, Effect, ExMem, Given, IdEx, IfId, Instr, Mode, Move, Nothing, Offer}
-use Rattle.accuracy.specs.Names.{PipelineCpu, Place, RawInstr, RawNormal, RawShort, Stages, Taken, beginWait}
-use Rattle.accuracy.specs.Names.{keepWaiting, loadUseStall, proceed, redirect}
+use Rattle.accuracy.specs.Names.{PipelineCpu, Place, RawInstr, RawNormal, RawShort, Stages, Start, Taken}
+use Rattle.accuracy.specs.Names.{beginWait, keepWaiting, loadUseStall, proceed, redirect}
 
 -- the bounds, one by one
 pub record Within (l : Stages) : Type 0 where
@@ -249,8 +249,7 @@ tick-in s t s′ e =
     in-bounds (s′ .stages) (subst (λ (x : PipelineCpu). Within (x .stages)) (k .is)
     (step-in s (taken t) (within (s .stages) (k .bounds)) (offer-in (t .offer) (k .fair))))
 
-pub fresh-in : (regs : List ℕ) (pc : ℕ) (mode : Mode) (user : Bool) (features : ℕ) → outOfBounds
-    ((fresh regs pc mode user features) .stages) ≡ false
+pub fresh-in : (v : Start) → outOfBounds ((fresh v) .stages) ≡ false
 unfolding fresh outOfBounds badIfId badIdEx badExMem badMemWb rawCode decodedCode instructionCode badWidth emptyIfId
     emptyIdEx emptyExMem emptyMemWb okOperands operandsN bare plain okDest
-fresh-in regs pc mode user features = refl
+fresh-in v = refl

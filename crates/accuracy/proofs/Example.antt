@@ -3,8 +3,8 @@ use mathlib.Core.Path.{refl}
 use Rattle.isa.specs.Effect.{branches, effectN, effectOf, effectS, fall, gives, goesBy, goesOn, identifies, jumps}
 use Rattle.isa.specs.Effect.{links, marked, noAccess, noMarks, noResult, nothing, privileged, raises, reaches, resumes}
 use Rattle.isa.specs.Effect.{sets, size, stops, written}
-use Rattle.isa.specs.Machine.{destOf, effectAt, first, instructionAt, isBarred, isEmpty, machine, machineBy}
-use Rattle.isa.specs.Machine.{machineStep, requestOf, rest, stepBy, stopsAt, valueAt}
+use Rattle.isa.specs.Machine.{archWith, destOf, effectAt, first, instructionAt, isBarred, isEmpty, machine, machineBy}
+use Rattle.isa.specs.Machine.{machineStep, programOf, requestOf, rest, stepBy, stopsAt, valueAt, zeroStart}
 use Rattle.isa.specs.Operands.{bare, binary, branching, gpr, loading, okDest, okOperands, operandsN, operandsOf}
 use Rattle.isa.specs.Operands.{operandsS, plain, reads, special, storing, unary, writes}
 use Rattle.isa.specs.Redirects.{isException, isMtsr, isTo, modeOr, newModeOr, targetOr}
@@ -35,7 +35,7 @@ use Rattle.pipeline.specs.Tick.{wordIn}
 use Rattle.pipeline.specs.Turn.{reply}
 use Rattle.word.specs.Words.{add32, and32, bit, cut32, div32, divu32, ldih32, ldil32, mod32, mul32, mulh32, offset32}
 use Rattle.word.specs.Words.{or32, sll32, slt32, sltu32, sra32, srl32, sub32, xor32}
-use Rattle.accuracy.specs.Accuracy.{after, answers, archWith, begin, fed, one, oneBy, wordList}
+use Rattle.accuracy.specs.Accuracy.{after, answers, begin, fed, one, oneBy, wordList}
 use Rattle.accuracy.specs.Asking.{replies}
 use Rattle.accuracy.specs.Count.{count, divides, isRedirect, multiplies, path, predictAt, redirects, retireTick}
 use Rattle.accuracy.specs.Count.{usedLoads}
@@ -48,8 +48,8 @@ unfolding bit add32 sub32 offset32 and32 or32 xor32 sll32 srl32 sra32 slt32 sltu
     isEmpty instructionAt effectAt valueAt destOf stepBy isBarred stopsAt machineBy machineStep machine gpr plain bare
     writes unary binary reads loading storing branching special operandsN operandsS operandsOf okDest okOperands isTo
     targetOr modeOr newModeOr isException isMtsr instructionCode rawCode decodedCode isOf isReg readReg putReg
-    writeReg writeCpuid isDest isNamed nibble lowBits shortBy decodeShort decodedOf slowOf isMul isDiv waits
-    isUsed isUsedLoad isNegative predictBy predict badWidth badIfId badIdEx badExMem badMemWb idExBy idExOf decodePredicted
+    writeReg writeCpuid isDest isNamed nibble lowBits shortBy decodeShort decodedOf slowOf isMul isDiv waits isUsed
+    isUsedLoad isNegative predictBy predict badWidth badIfId badIdEx badExMem badMemWb idExBy idExOf decodePredicted
     loadUse effectIn exMemOf mispredict operandB effectFrom cpuidWord fromMemWb fromExMem forwardFrom emptyIfId
     emptyIdEx emptyExMem emptyMemWb cleared loads stores destAfter writesAfter valueAfter passedOn memWbOf requests
     halts retireReg retireCpuid retiredRegs retiredPc retiredMode isFaulty placeAfter ifIdAfter idExAfter waitAfter
@@ -58,5 +58,6 @@ unfolding bit add32 sub32 offset32 and32 or32 xor32 sll32 srl32 sra32 slt32 sltu
     fetchFrom fetchPlace fetches fetched nextIdEx waitsOn hazard isSlow beginsWait proceedOr moveFrom freeMove move
     isWait nextExMem andThen outOfBounds faulty stateTests retireStages retire fresh offerCode fitsOffer isAnswer same
     rawOf wordIn taken verdict givenTests tests tick reply oneBy one after wordList fed answers begin archWith replies
-    predictAt isRedirect count multiplies divides usedLoads redirects retireTick path source program start ticks due
+    predictAt isRedirect count multiplies divides usedLoads redirects retireTick path source zeroStart programOf
+    program start ticks due
 example = record { accepted = refl; retired = refl; due = refl }

@@ -5,6 +5,7 @@ use mathlib.Core.Bool.{false, true}
 use mathlib.Core.List.{List}
 use mathlib.Core.Path.{_∙_, _≡_, ap}
 use Rattle.isa.proofs.Bools.{split}
+use Rattle.isa.specs.Machine.{zeroStart}
 use Rattle.isa.specs.Operands.{okDest}
 use Rattle.isa.specs.Registers.{readReg}
 use Rattle.latch.specs.Latches.{emptyMemWb}
@@ -13,7 +14,7 @@ use Rattle.latch.specs.Retire.{retiredRegs}
 use Rattle.pipeline.specs.Forwarding.{forwarded}
 use Rattle.pipeline.specs.Start.{fresh}
 use Rattle.accuracy.proofs.Registers.{fwd-law, xmRegs}
-use Rattle.accuracy.specs.Names.{ExMem, Normal, PipelineCpu, Stages}
+use Rattle.accuracy.specs.Names.{ExMem, PipelineCpu, Stages}
 
 -- forwarding, RULES 5.4: the register's value after MEM/WB's and then EX/MEM's writes, in retirement's
 -- own words
@@ -28,5 +29,5 @@ pub fwd-writes : (l : Stages) (rs : List ℕ) (r v : ℕ) → okDest (l .«mem_w
     → forwarded l rs r
     ≡ readReg (retiredRegs (memWbOf (l .«ex_mem») v) (l .features) (retiredRegs (l .«mem_wb») (l .features) rs)) r
 fwd-writes l rs r v a b n e t =
-    let s : PipelineCpu = record { reg = rs; stages = l; counts = (fresh rs 0 Normal false 0) .counts } in
+    let s : PipelineCpu = record { reg = rs; stages = l; counts = (fresh zeroStart) .counts } in
     fwd-law s r a b n e ∙ ap (λ (x : List ℕ). readReg x r) (xm-writes (l .«ex_mem») v (l .features) _ e t)

@@ -7,11 +7,11 @@ use mathlib.Core.List.{List, [], _∷_}
 use mathlib.Core.Path.{_∙_, _≡_, ap, refl, sym}
 use native.Mathlib.Omega.{arith}
 use Rattle.isa.proofs.Bools.{both-l, both-r, split}
-use Rattle.isa.specs.Machine.{Program}
+use Rattle.isa.specs.Machine.{Program, Source}
 use Rattle.isa.specs.Short.{decodedOf}
 use Rattle.pipeline.specs.Ask.{fetchAt, wantFetch}
 use Rattle.pipeline.specs.Tick.{Result, moved, refused, tick}
-use Rattle.pipeline.specs.Turn.{Source, reply}
+use Rattle.pipeline.specs.Turn.{reply}
 use Rattle.accuracy.specs.Accuracy.{Agree, Run, firstOffer, offered, offeredBy, one, sameMode}
 use Rattle.accuracy.specs.Asking.{replies}
 use Rattle.accuracy.specs.Names.{Decoded, Given, Instr, Mode, Normal, Nothing, Offer, PipelineCpu, Place}

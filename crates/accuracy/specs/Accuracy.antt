@@ -1,18 +1,18 @@
 -- RULES 15.3 to 15.8: one claim about a whole list of ticks, from a fresh state.
 use Prim.Native.Nat.{_*_, _+_, _≤_, suc, ℕ}
 use lib.Dec.{eqb}
-use lib.ListN.{length, set}
+use lib.ListN.{length}
 use mathlib.Core.Bool.{Bool, _&&_, cond, false, true}
 use mathlib.Core.List.{List, [], _++_, _∷_}
 use mathlib.Core.Path.{_≡_}
-use Rattle.isa.specs.Machine.{Arch, Program, machine}
+use Rattle.isa.specs.Machine.{Arch, Program, archWith, machine, wholeProgram}
 use Rattle.isa.specs.Short.{decodedOf}
 use Rattle.pipeline.specs.Ask.{asks, fetchAt}
 use Rattle.pipeline.specs.Start.{fresh}
 use Rattle.pipeline.specs.Tick.{Result, moved, refused, tick}
 use Rattle.accuracy.specs.Count.{path, retireTick}
 use Rattle.accuracy.specs.Names.{Answer, DecNormal, Decoded, Given, Instr, Mode, NoAnswer, Nop, Normal, Nothing}
-use Rattle.accuracy.specs.Names.{Offer, PipelineCpu, Place, Request, Short, Word}
+use Rattle.accuracy.specs.Names.{Offer, PipelineCpu, Place, Request, Short, Start, Word}
 
 -- a list of ticks so far: the state handed back, the accepted ticks, the requests asked for in them
 pub record Run : Type 0 where
@@ -72,18 +72,9 @@ unfoldable pub firstOffer : List (Place × Decoded) → ℕ → Mode → Decoded
 firstOffer [] p m = DecNormal Nop
 firstOffer (x ∷ l) p m = cond (eqb p (x .0 .pc) && sameMode m (x .0 .mode)) (x .1) (firstOffer l p m)
 
--- a program by its instructions, whose loads take their answers whole, at every width
-abbrev pub wholeProgram : Bool → ℕ → (ℕ → Mode → Decoded) → Program
-wholeProgram user features f = record { instruction = f; user = user; features = features; take = λ w v. v }
-
 -- the run before its first tick
-unfoldable pub begin : List ℕ → ℕ → Mode → Bool → ℕ → Run
-begin regs pc mode user features =
-    record { state = fresh regs pc mode user features; accepted = 0; requests = [] }
-
--- the one-at-a-time machine before its first step, fed a list of answers
-unfoldable pub archWith : List ℕ → ℕ → Mode → List ℕ → Arch
-archWith regs pc mode l = record { reg = set regs 0 0; pc = pc; mode = mode; answers = l; requests = [] }
+unfoldable pub begin : Start → Run
+begin v = record { state = fresh v; accepted = 0; requests = [] }
 
 -- The N-th retirement in a list: the tick `here` raises the retired count from N - 1 to N. Its number is exact and
 -- at most 16N + 4; the registers after it are the machine's after N instructions, all done; the requests of earlier
@@ -106,19 +97,18 @@ pub record Retires (prog : Program) (w : Arch) (r : Run) (ts : List Given) (N : 
 -- RULES 15.6: where an address and mode always offer accepted ticks the same instruction, the one offered first
 abbrev pub Demand3 : Type 0
 Demand3 =
-    (regs : List ℕ) (pc : ℕ) (mode : Mode) (user : Bool) (features : ℕ) (ts : List Given) → length regs ≡ 32
-    → let r = begin regs pc mode user features in
+    (v : Start) (ts : List Given) → length (v .reg) ≡ 32
+    → let r = begin v in
     let f = firstOffer (offered r ts) in
     Agree f (offered r ts)
     → (N : ℕ) → 1 ≤ N → N ≤ (after r ts) .state .counts .«instructions_executed»
-    → Retires (wholeProgram user features f) (archWith regs pc mode (answers r ts)) r ts N
+    → Retires (wholeProgram v f) (archWith v (answers r ts)) r ts N
 
 -- the same for any instructions that the accepted offers agree with, whatever stands where none was offered
 abbrev pub Demand3For : Type 0
 Demand3For =
-    (f : ℕ → Mode → Decoded) (regs : List ℕ) (pc : ℕ) (mode : Mode) (user : Bool) (features : ℕ) (ts : List Given)
-    → length regs ≡ 32
-    → let r = begin regs pc mode user features in
+    (f : ℕ → Mode → Decoded) (v : Start) (ts : List Given) → length (v .reg) ≡ 32
+    → let r = begin v in
     Agree f (offered r ts)
     → (N : ℕ) → 1 ≤ N → N ≤ (after r ts) .state .counts .«instructions_executed»
-    → Retires (wholeProgram user features f) (archWith regs pc mode (answers r ts)) r ts N
+    → Retires (wholeProgram v f) (archWith v (answers r ts)) r ts N

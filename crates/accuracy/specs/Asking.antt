@@ -3,11 +3,12 @@ use Prim.Native.Nat.{ℕ}
 use mathlib.Core.Bool.{Bool, false, true}
 use mathlib.Core.List.{List, [], _++_, _∷_}
 use mathlib.Core.Path.{_≡_}
+use Rattle.isa.specs.Machine.{Source}
 use Rattle.isa.specs.Short.{decodedOf}
 use Rattle.pipeline.specs.Advance.{next}
 use Rattle.pipeline.specs.Ask.{ask}
 use Rattle.pipeline.specs.Tick.{fitsOffer, isAnswer, moved, offerCode, refused, taken, tick}
-use Rattle.pipeline.specs.Turn.{Source, reply}
+use Rattle.pipeline.specs.Turn.{reply}
 use Rattle.accuracy.specs.Accuracy.{Run, offered, one}
 use Rattle.accuracy.specs.Names.{Fetch, From, Given, Instr, Load, Mode, NoFetch, NoRequest, Normal, NotAsked}
 use Rattle.accuracy.specs.Names.{Offer, PipelineCpu, RawInstr, Request, Store, Wanted, Wants}

@@ -6,10 +6,10 @@
 -- Here: Count (M, D, L, R, the formula), Accuracy (RULES 15.6), Asking, Example.
 use Prim.Native.Nat.{suc, ℕ}
 use lib.ListN.{length}
-use mathlib.Core.Bool.{Bool, false, true}
+use mathlib.Core.Bool.{false, true}
 use mathlib.Core.List.{List, _++_, _∷_}
 use mathlib.Core.Path.{_≡_}
-use Rattle.isa.specs.Machine.{Arch, Program}
+use Rattle.isa.specs.Machine.{Arch, Program, Source}
 use Rattle.isa.specs.Operands.{okDest}
 use Rattle.isa.specs.Registers.{readReg}
 use Rattle.isa.specs.Short.{decodedOf}
@@ -19,11 +19,10 @@ use Rattle.pipeline.specs.Forwarding.{forwarded}
 use Rattle.pipeline.specs.Refusals.{outOfBounds}
 use Rattle.pipeline.specs.Start.{fresh}
 use Rattle.pipeline.specs.Tick.{moved, tick, ticked}
-use Rattle.pipeline.specs.Turn.{Source}
 use Rattle.accuracy.specs.Accuracy.{Agree, Demand3, Demand3For, Retires, Run, after, firstOffer, offered, one}
 use Rattle.accuracy.specs.Asking.{Asking, replies}
 use Rattle.accuracy.specs.Example.{Example}
-use Rattle.accuracy.specs.Names.{Decoded, Given, Mode, PipelineCpu, Place, Refused, Stages}
+use Rattle.accuracy.specs.Names.{Decoded, Given, Mode, PipelineCpu, Place, Refused, Stages, Start}
 
 -- Everything claimed; proved in proofs/Claims.antt.
 pub record Claims : Type 0 where
@@ -47,8 +46,7 @@ pub record Claims : Type 0 where
   pub handsBack : (s : PipelineCpu) (t : Given) (n : ℕ) → (ticked s t) .outcome ≡ Refused n → (ticked s t) .state ≡ s
   pub asking : Asking
   -- A fresh state is in bounds, and an accepted tick keeps the bounds: 11 never arises in a list.
-  pub fresh : (regs : List ℕ) (pc : ℕ) (mode : Mode) (user : Bool) (features : ℕ)
-      → outOfBounds ((fresh regs pc mode user features) .stages) ≡ false
+  pub fresh : (v : Start) → outOfBounds ((fresh v) .stages) ≡ false
   pub keeps : (s : PipelineCpu) (t : Given) (s′ : PipelineCpu) → tick s t ≡ moved s′ → outOfBounds (s′ .stages) ≡ false
   -- Forwarding: for each register its value after MEM/WB's and then EX/MEM's writes, R0 reading as 0, where EX/MEM is
   -- no load or store (that neither holds an exception, MTSR, IRET or HALT is not needed for the registers).

@@ -2,16 +2,14 @@
 use Prim.Native.Nat.{_/_, ℕ}
 use lib.IntN.{pos}
 use lib.ListN.{getD, replicate}
-use mathlib.Core.Bool.{false}
 use mathlib.Core.List.{List, [], _∷_}
 use mathlib.Core.Path.{_≡_}
-use Rattle.isa.specs.Machine.{Program}
-use Rattle.isa.specs.Short.{decodedOf}
-use Rattle.pipeline.specs.Turn.{Source}
-use Rattle.accuracy.specs.Accuracy.{Run, after, archWith, begin, wholeProgram}
+use Rattle.isa.specs.Machine.{Program, Source, archWith, programOf, zeroStart}
+use Rattle.accuracy.specs.Accuracy.{Run, after, begin}
 use Rattle.accuracy.specs.Asking.{replies}
 use Rattle.accuracy.specs.Count.{path, retireTick}
-use Rattle.accuracy.specs.Names.{Div, Given, Halt, Jmp, Ld, NoAnswer, Normal, Nothing, RawNormal, Unknown}
+use Rattle.accuracy.specs.Names.{Div, Given, Halt, Jmp, Ld, NoAnswer, Nothing, RawNormal}
+use Rattle.accuracy.specs.Names.{Unknown}
 
 -- LD R1,R0+8; DIV R2,R1,R1; JMP 0; HALT at addresses 0, 4, 8, 12
 unfoldable pub source : Source
@@ -20,10 +18,10 @@ source = record {
 }
 
 unfoldable pub program : Program
-program = wholeProgram false 0 (λ p m. decodedOf (source .raw p m))
+program = programOf source zeroStart
 
 unfoldable pub start : Run
-start = begin (replicate 32 0) 0 Normal false 0
+start = begin zeroStart
 
 -- a tick that is refused, then as many as are asked for, each with answer 9
 unfoldable pub ticks : List Given
@@ -31,7 +29,7 @@ ticks = record { offer = Nothing; answer = NoAnswer } ∷ replies source (replic
 
 -- the tick of the n-th retirement, by the formula alone
 unfoldable pub due : ℕ → ℕ
-due n = retireTick program (λ k. path program (archWith (replicate 32 0) 0 Normal (9 ∷ [])) k) n
+due n = retireTick program (λ k. path program (archWith zeroStart (9 ∷ [])) k) n
 
 pub record Example : Type 0 where
   pub accepted : (after start ticks) .accepted ≡ 26

@@ -1,6 +1,7 @@
 -- The declared types and constructors that this crate names, each under the name that the declaring crate gives it.
 pub use Rattle.isa.specs.declared.Mode.{Mode}
 pub use Rattle.isa.specs.declared.Mode.the-variants.{Normal, Short}
+pub use Rattle.isa.specs.declared.Start.{Start}
 pub use Rattle.isa.specs.declared.Instruction.{Instruction}
 pub use Rattle.isa.specs.declared.Instruction.the-variants.{Nop, Ld, St, Add, Addi, Sub, Slt, Beq, Bne, Jmp, Jal, Jr}
 pub use Rattle.isa.specs.declared.Instruction.the-variants.{Jmps, Jals, Jrs, Jalr, Jalrs, Cpuid, Halt, And, Or, Xor}

@@ -8,6 +8,7 @@ use crate::read_latch::ex_mem;
 use crate::read_latch::id_ex;
 use crate::read_latch::if_id;
 use crate::read_latch::mem_wb;
+use isa::Start;
 use pipeline::Answer;
 use pipeline::Counters;
 use pipeline::Given;
@@ -67,8 +68,19 @@ pub fn state(n: &[u32; 192]) -> PipelineCpu {
     }
 }
 
+// What start is given.
+pub fn begin(n: &[u32; 192]) -> Start {
+    Start {
+        reg: registers(n),
+        pc: n[33],
+        mode: to_mode(n[34]),
+        user: flag(n, 35, 0),
+        features: n[36],
+    }
+}
+
 pub fn started(n: &[u32; 192]) -> PipelineCpu {
-    PipelineCpu::start(registers(n), n[33], to_mode(n[34]), flag(n, 35, 0), n[36])
+    PipelineCpu::start(begin(n))
 }
 
 fn offer(n: &[u32; 192], at: usize) -> Offer {

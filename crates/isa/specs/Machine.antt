@@ -1,13 +1,16 @@
 -- The one-at-a-time machine: one step does the instruction at its address and mode.
 use Prim.Native.Nat.{suc, zero, ℕ}
+use lib.ListN.{replicate, set}
 use mathlib.Core.Bool.{Bool, _&&_, _||_, cond, false, not, true}
 use mathlib.Core.List.{List, [], _++_, _∷_}
 use Rattle.word.specs.Words.{cut32}
 use Rattle.isa.specs.Effect.{effectOf, fall}
-use Rattle.isa.specs.Names.{Decoded, Dest, Effect, Load, Mode, NoDest, Request, Store}
+use Rattle.isa.specs.Names.{Decoded, Dest, Effect, Load, Mode, NoDest, Normal, RawInstr, Request, Start}
+use Rattle.isa.specs.Names.{Store}
 use Rattle.isa.specs.Operands.{operandsOf}
 use Rattle.isa.specs.Redirects.{isException, isMtsr, modeOr, targetOr}
 use Rattle.isa.specs.Registers.{readReg, writeCpuid, writeReg}
+use Rattle.isa.specs.Short.{decodedOf}
 
 -- the request of a load (l) or a store (s): address, width, and for a store the word cut to the width
 unfoldable pub requestOf : Bool → Bool → ℕ → ℕ → ℕ → List Request
@@ -23,6 +26,18 @@ pub record Program : Type 0 where
   pub features : ℕ
   pub take : ℕ → ℕ → ℕ
 
+-- a program by its instructions, from a start's values; its loads take their answers whole, at every width
+abbrev pub wholeProgram : Start → (ℕ → Mode → Decoded) → Program
+wholeProgram v f = record { instruction = f; user = v .user; features = v .features; take = λ w x. x }
+
+-- what a run is offered from: the instruction of each address and mode
+pub record Source : Type 0 where
+  pub raw : ℕ → Mode → RawInstr
+
+-- the program of a source, from a start's values
+unfoldable pub programOf : Source → Start → Program
+programOf src v = wholeProgram v (λ p m. decodedOf (src .raw p m))
+
 -- registers, address, mode, answers left, requests made
 pub record Arch : Type 0 where
   pub reg : List ℕ
@@ -30,6 +45,14 @@ pub record Arch : Type 0 where
   pub mode : Mode
   pub answers : List ℕ
   pub requests : List Request
+
+-- the machine before its first step, from a start's values and fed a list of answers
+unfoldable pub archWith : Start → List ℕ → Arch
+archWith v l = record { reg = set (v .reg) 0 0; pc = v .pc; mode = v .mode; answers = l; requests = [] }
+
+-- RULES 20.1: registers, address and feature word 0, Normal, supervisor
+unfoldable pub zeroStart : Start
+zeroStart = record { reg = replicate 32 0; pc = 0; mode = Normal; user = false; features = 0 }
 
 -- the next answer; 0 where none is left
 unfoldable pub first : List ℕ → ℕ

@@ -1,6 +1,7 @@
 -- The declared types and their constructors, each under one name: an `s` stands before a Short instruction's.
 pub use Rattle.isa.specs.declared.Mode.{Mode}
 pub use Rattle.isa.specs.declared.Mode.the-variants.{Normal, Short}
+pub use Rattle.isa.specs.declared.Start.{Start}
 pub use Rattle.isa.specs.declared.Instruction.{Instruction}
 pub use Rattle.isa.specs.declared.Instruction.the-variants.{Nop, Ld, St, Add, Addi, Sub, Slt, Beq, Bne, Jmp}
 pub use Rattle.isa.specs.declared.Instruction.the-variants.{Jal, Jr, Jmps, Jals, Jrs, Jalr, Jalrs, Cpuid}

@@ -13,6 +13,10 @@
 // - short_reg_to_gpr: R15 for 15 (register_15_is_r15); R31 for 14.
 // - sel: the two words exchanged; the first word always.
 // - read_reg: the word that stands in reg[0] for R0; 0 for R31.
+// - put_reg: R0 written; R31 not written.
+// - write_reg: a word for R1 where no destination is named; R0 put to 0.
+// - write_cpuid: R2 written where the instruction is not CPUID; the two words exchanged.
+// - Start::zero: Short mode; the user flag set.
 // - Operands::predict: every conditional branch taken; the offset added to the branch's own address.
 // - Decoded::waits: 16 for a divide; a wait for DIV and none for MOD.
 // - ShortInstruction::decode_short: LDI at nibble 10; JAL's offset unsigned.
@@ -40,12 +44,22 @@ mod redirects;
 mod refusals;
 pub mod registers;
 mod short;
+mod starts;
 mod waits;
 
 // The mode of an instruction: 4 bytes long, or 2.
 pub enum Mode {
     Normal,
     Short,
+}
+
+// What a program starts with: registers, address, mode, whether it runs in user mode, the feature word.
+pub struct Start {
+    pub reg: [u32; 32],
+    pub pc: u32,
+    pub mode: Mode,
+    pub user: bool,
+    pub features: u32,
 }
 
 // A Normal instruction. Unknown holds the high and the low half of its word.

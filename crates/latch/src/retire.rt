@@ -1,24 +1,12 @@
 // Retirement of MEM/WB.
 ghost use mathlib.Core.Path.{_≡_};
-ghost use Rattle.isa.specs.Registers.{putReg};
 ghost use Rattle.latch.specs.Retire.{halts, isFaulty, retireCpuid, retireReg, retiredMode, retiredPc};
 ghost use Rattle.latch.specs.Retire.{retiredRegs};
 use crate::MemWb;
 use isa::Dest;
 use isa::Mode;
-use isa::registers::PROCESSOR_NAME;
-
-// A word for a register from R1 to R31; no other is written.
-fn put_reg(k: u8, v: u32, reg: &mut [u32; 32])
-    ensures { λ r. ⌜ now (reg .exit) ≡ putReg k v (now (reg .entry)) ⌝ }
-{
-    if 0 < k {
-        if k < 32 {
-            let i = k as usize;
-            reg[i] = v;
-        }
-    }
-}
+use isa::registers::put_reg;
+use isa::registers::write_cpuid;
 
 // A write puts R0 back to 0.
 fn retire_reg(d: Dest, v: u32, reg: &mut [u32; 32])
@@ -35,9 +23,8 @@ fn retire_reg(d: Dest, v: u32, reg: &mut [u32; 32])
 fn retire_cpuid(on: bool, features: u32, reg: &mut [u32; 32])
     ensures { λ r. ⌜ now (reg .exit) ≡ retireCpuid on features (now (reg .entry)) ⌝ }
 {
+    write_cpuid(on, features, reg);
     if on {
-        reg[1] = PROCESSOR_NAME;
-        reg[2] = features;
         reg[0] = 0;
     }
 }

@@ -1,21 +1,19 @@
 -- Start: R0 becomes 0, the address and mode are both the fetch and the retire place, latches are empty, no wait is
 -- under way, the machine runs, counters are 0.
-use Prim.Native.Nat.{ℕ}
 use lib.ListN.{set}
-use mathlib.Core.Bool.{Bool, false, true}
-use mathlib.Core.List.{List}
+use mathlib.Core.Bool.{false, true}
 use Rattle.latch.specs.Latches.{emptyExMem, emptyIdEx, emptyIfId, emptyMemWb}
-use Rattle.pipeline.specs.Names.{Mode, PipelineCpu}
+use Rattle.pipeline.specs.Names.{PipelineCpu, Start}
 
-unfoldable pub fresh : List ℕ → ℕ → Mode → Bool → ℕ → PipelineCpu
-fresh regs pc mode user features = record {
-  reg = set regs 0 0;
+unfoldable pub fresh : Start → PipelineCpu
+fresh v = record {
+  reg = set (v .reg) 0 0;
   stages = record {
-    «fetch_at» = record { pc = pc; mode = mode };
-    «retire_at» = record { pc = pc; mode = mode };
+    «fetch_at» = record { pc = v .pc; mode = v .mode };
+    «retire_at» = record { pc = v .pc; mode = v .mode };
     running = true;
-    user = user;
-    features = features;
+    user = v .user;
+    features = v .features;
     «if_id» = emptyIfId;
     «id_ex» = emptyIdEx;
     «ex_mem» = emptyExMem;

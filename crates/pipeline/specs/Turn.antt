@@ -1,12 +1,9 @@
 -- The tick that answers what is asked from a fixed program.
 use Prim.Native.Nat.{ℕ}
 use mathlib.Core.Bool.{cond}
+use Rattle.isa.specs.Machine.{Source}
 use Rattle.pipeline.specs.Ask.{fetchAt, wantFetch, wantLoad}
-use Rattle.pipeline.specs.Names.{Given, Instr, Mode, NoAnswer, Nothing, PipelineCpu, RawInstr, Word}
-
--- what a run is offered from: the instruction of each address and mode
-pub record Source : Type 0 where
-  pub raw : ℕ → Mode → RawInstr
+use Rattle.pipeline.specs.Names.{Given, Instr, NoAnswer, Nothing, PipelineCpu, Word}
 
 -- a tick made by asking, answered from a source; v is the answer of a load
 unfoldable pub reply : Source → ℕ → PipelineCpu → Given

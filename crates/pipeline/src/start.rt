@@ -5,7 +5,7 @@ use crate::Counters;
 use crate::PipelineCpu;
 use crate::Place;
 use crate::Stages;
-use isa::Mode;
+use isa::Start;
 use latch::ExMem;
 use latch::IdEx;
 use latch::IfId;
@@ -13,19 +13,21 @@ use latch::MemWb;
 
 impl PipelineCpu {
     // The state that a program starts in: R0 becomes 0, latches are empty, no wait, running, counters 0.
-    pub fn start(reg: [u32; 32], pc: u32, mode: Mode, user: bool, features: u32) -> PipelineCpu
-        ensures { λ r. ⌜ r ≡ fresh reg pc mode user features ⌝ }
+    pub fn start(v: Start) -> PipelineCpu
+        ensures { λ r. ⌜ r ≡ fresh v ⌝ }
     {
-        let mut regs = reg;
-        regs[0] = 0;
+        let mut reg = v.reg;
+        reg[0] = 0;
+        let pc = v.pc;
+        let mode = v.mode;
         PipelineCpu {
-            reg: regs,
+            reg,
             stages: Stages {
                 fetch_at: Place { pc, mode },
                 retire_at: Place { pc, mode },
                 running: true,
-                user,
-                features,
+                user: v.user,
+                features: v.features,
                 if_id: IfId::invalid(),
                 id_ex: IdEx::invalid(),
                 ex_mem: ExMem::invalid(),

@@ -1,6 +1,6 @@
 // Runs a sheet so many times from the start of RULES 20.1, and writes the sum of the ticks used. Standard input:
 // rounds and tick limit, four bytes each, high byte first, then the sheet.
-use isa::Mode;
+use isa::Start;
 use pipeline::PipelineCpu;
 
 // The number of four bytes, high byte first; bytes that are not there count as 0.
@@ -33,7 +33,7 @@ fn total(rounds: u32, limit: u32, sheet: &[u8], answers: &[u32]) -> u32 {
     let mut left = rounds;
     let mut sum: u32 = 0;
     while left > 0 {
-        let s = PipelineCpu::start([0u32; 32], 0, Mode::Normal, false, 0);
+        let s = PipelineCpu::start(Start::zero());
         let r = runner::run(s, sheet, answers, limit);
         sum = std::num::wrapping_add_u32(sum, r.ticks);
         left -= 1;

@@ -1,61 +1,30 @@
 -- One turn of the runner's loop. Assumes nothing.
-use Prim.Native.Nat.{_+_, _-_, _<_, _≤_, suc, zero, ℕ}
-use borrow.Author.Tests.{eqb-false, eqb-true, leb-false, leb-true, lt-ltb, ltb-false, ltb-true}
+use Prim.Native.Nat.{_+_, _-_, _<_, suc, ℕ}
+use borrow.Author.Tests.{eqb-false, eqb-true, leb-false, ltb-false, ltb-true}
 use lib.Dec.{eqb, leb, ltb}
 use lib.ListN.{drop, getD, length}
 use mathlib.Core.Bool.{Bool, _&&_, false, false≢true, true}
-use mathlib.Core.List.{List, [], _∷_}
+use mathlib.Core.List.{List}
 use mathlib.Core.Path.{_∙_, _≡_, ap, refl, sym}
 use native.Mathlib.Omega.{arith}
 use Rattle.isa.proofs.Bools.{split}
-use Rattle.isa.specs.Machine.{first, isEmpty, rest}
+use Rattle.isa.specs.Machine.{Source}
 use Rattle.pipeline.specs.Advance.{next}
 use Rattle.pipeline.specs.Ask.{wantLoad}
 use Rattle.pipeline.specs.Counting.{counterFull}
 use Rattle.pipeline.specs.Refusals.{faulty, outOfBounds}
 use Rattle.pipeline.specs.Tick.{moved, taken, tick}
-use Rattle.pipeline.specs.Turn.{Source, reply}
+use Rattle.pipeline.specs.Turn.{reply}
 use Rattle.runs.proofs.Plays.{play-ends, play-goes, play-last}
 use Rattle.runs.proofs.Replies.{goes-reply, stays-in}
 use Rattle.runs.specs.Run.{Played, ended, leftAfter, more, play, reported, runCode, turnOf}
+use Rattle.sheet.proofs.Left.{left-after, left-empty, left-first, used-within}
 use Rattle.sheet.proofs.Fair.{Fair}
-use Rattle.sheet.specs.Sheet.{sheetCode}
-use Rattle.sheet.specs.Turns.{turnBy}
-use Rattle.runner.specs.Inner.{Holds, Ready, later, usedAfter}
+use Rattle.sheet.proofs.Limit.{limited}
+use Rattle.sheet.specs.Sheet.{limitedCode}
+use Rattle.sheet.specs.Turns.{turnBy, usedAfter}
+use Rattle.runner.specs.Inner.{Holds, Ready, later}
 use Rattle.runner.specs.Names.{End, Ends, Given, PipelineCpu, Ticks, Turn}
-
--- the answers left, by how many are used
-none-left : (l : List ℕ) (k : ℕ) → length l ≤ k → isEmpty (drop k l) ≡ true
-unfolding isEmpty
-none-left [] zero h = refl
-none-left [] (suc k) h = refl
-none-left (x ∷ l) zero h = absurd (omega arith)
-none-left (x ∷ l) (suc k) h = none-left l k (omega arith)
-
-some-left : (l : List ℕ) (k : ℕ) → k < length l → isEmpty (drop k l) ≡ false
-unfolding isEmpty
-some-left [] k h = absurd (omega arith)
-some-left (x ∷ l) zero h = refl
-some-left (x ∷ l) (suc k) h = some-left l k (omega arith)
-
-left-empty : (l : List ℕ) (k : ℕ) → isEmpty (drop k l) ≡ leb (length l) k
-left-empty l k = split (leb (length l) k)
-    (λ e. rw e (none-left l k (leb-true (length l) k e)))
-    (λ e. rw e (some-left l k (leb-false (length l) k e)))
-
-left-first : (l : List ℕ) (k : ℕ) → first (drop k l) ≡ getD l k 0
-unfolding first
-left-first [] zero = refl
-left-first [] (suc k) = refl
-left-first (x ∷ l) zero = refl
-left-first (x ∷ l) (suc k) = left-first l k
-
-left-rest : (l : List ℕ) (k : ℕ) → rest (drop k l) ≡ drop (suc k) l
-unfolding rest
-left-rest [] zero = refl
-left-rest [] (suc k) = refl
-left-rest (x ∷ l) zero = refl
-left-rest (x ∷ l) (suc k) = left-rest l k
 
 -- by the five tests, a turn that ticks runs, is below the limit, not at 12, no counter is full; a load has its answer
 ticks-by : (r p a b d : Bool) → turnBy r p a b d ≡ Ticks
@@ -67,13 +36,6 @@ ticks-by true false false true d e = absurd (let z : _≡_ {A = ℕ} 0 1 = cc in
 ticks-by true false true b d e = absurd (let z : _≡_ {A = ℕ} 0 1 = cc in omega arith)
 ticks-by true true a b d e = absurd (let z : _≡_ {A = ℕ} 0 1 = cc in omega arith)
 ticks-by false p a b d e = absurd (let z : _≡_ {A = ℕ} 0 1 = cc in omega arith)
-
--- no answer past the last
-pub past-last : (l : List ℕ) (k : ℕ) → length l ≤ k → 0 ≡ getD l k 0
-past-last [] zero h = refl
-past-last [] (suc k) h = refl
-past-last (x ∷ l) zero h = absurd (omega arith)
-past-last (x ∷ l) (suc k) h = past-last l k (omega arith)
 
 -- one tick more, counted before or behind
 later-more : (t : ℕ) (x : Given) (p : Played) → later t (more x p) ≡ later (t + 1) p
@@ -121,11 +83,8 @@ module _ (src : Source) (fair : Fair (src .raw)) (limit : ℕ) (l : List ℕ) (s
       (λ z. leb-false (length l) k z)
 
   used-so : u ≡ Ticks → leftAfter s (drop k l) ≡ drop (usedAfter (wantLoad (s .stages)) k (length l)) l
-  unfolding leftAfter usedAfter
-  used-so q = split (wantLoad (s .stages))
-      (λ e. let z : suc k ≡ k + 1 = omega arith in
-      rw (e, lt-ltb k (length l) (answered q e)) (left-rest l k ∙ ap (λ (n : ℕ). drop n l) z))
-      (λ e. rw e)
+  unfolding leftAfter
+  used-so q = left-after (wantLoad (s .stages)) l k (answered q)
 
   -- s′: the state after a turn that ticks
   module _ (s′ : PipelineCpu) (q : u ≡ Ticks) (is-by : s .stages .running ≡ true → counterFull (s .counts) ≡ false
@@ -147,11 +106,9 @@ module _ (src : Source) (fair : Fair (src .raw)) (limit : ℕ) (l : List ℕ) (s
         ∙ ap (λ (m : List ℕ). later (t + 1) (play src (limit - (t + 1)) m s′)) (used-so q)
 
     pub goes : Holds src limit l s₀ s′ (usedAfter (wantLoad (s .stages)) k (length l)) (t + 1)
-    unfolding usedAfter
     goes = record {
       within = omega (arith, eqb-false t limit (ticks-so q .1), h .within);
-      used = split (wantLoad (s .stages)) (λ e. let z = answered q e in rw (e, lt-ltb k (length l) z) (omega arith))
-          (λ e. rw e (h .used));
+      used = used-within (wantLoad (s .stages)) l k (h .used) (answered q);
       bounds = rw is (stays-in src fair s (getD l k 0) (h .bounds) (ticks-so q .2) (ticks-so q .3));
       same = h .same ∙ goes-on;
     }
@@ -175,14 +132,16 @@ begins src limit l s b =
 -- what is tested before the first turn, by its code
 pub ready : (s : PipelineCpu) (sheet : List ℕ) (limit : ℕ) → runCode s sheet limit ≡ 0 → Ready sheet limit s
 unfolding runCode
-ready s sheet limit e = split (ltb 0 (sheetCode sheet))
-    (λ a. let z : sheetCode sheet ≡ 0 = rw a at e in absurd (omega (arith, ltb-true 0 (sheetCode sheet) a)))
-    (λ a. split (ltb 1000000 limit)
-    (λ b. let z : _≡_ {A = ℕ} 7 0 = rw (a, b) at e in absurd (omega arith))
-    (λ b. split (outOfBounds (s .stages))
-    (λ d. let z : _≡_ {A = ℕ} 11 0 = rw (a, b, d) at e in absurd (omega arith))
-    (λ d. record {
-      checked = omega (arith, ltb-false 0 (sheetCode sheet) a);
-      within = omega (arith, ltb-false 1000000 limit b);
+ready s sheet limit e = split (ltb 0 (limitedCode sheet limit))
+    (λ a. let z : limitedCode sheet limit ≡ 0 = rw a at e in absurd (omega (
+      arith,
+      ltb-true 0 (limitedCode sheet limit)
+          a,
+    )))
+    (λ a. split (outOfBounds (s .stages))
+    (λ d. let z : _≡_ {A = ℕ} 11 0 = rw (a, d) at e in absurd (omega arith))
+    (λ d. let z = limited sheet limit (omega (arith, ltb-false 0 (limitedCode sheet limit) a)) in record {
+      checked = z .0;
+      within = z .1;
       bounds = d;
-    })))
+    }))

@@ -4,6 +4,7 @@ use mathlib.Core.Bool.{cond, false, true}
 use mathlib.Core.List.{List}
 use mathlib.Core.Path.{_∙_, _≡_}
 use Rattle.isa.proofs.Bools.{split}
+use Rattle.isa.specs.Machine.{Source}
 use Rattle.pipeline.proofs.Running.{fetch-at, no-fetch, plan-next, wait-next, want-fetch}
 use Rattle.pipeline.specs.Advance.{next}
 use Rattle.pipeline.specs.Ask.{fetchAt, wantFetch, wantLoad}
@@ -12,7 +13,7 @@ use Rattle.pipeline.specs.Inner.{Retired}
 use Rattle.pipeline.specs.Move.{waitsOn}
 use Rattle.pipeline.specs.Plans.{advancePlan, planOf, waited}
 use Rattle.pipeline.specs.Tick.{rawOf, taken, wordIn}
-use Rattle.pipeline.specs.Turn.{Source, reply}
+use Rattle.pipeline.specs.Turn.{reply}
 use Rattle.runner.specs.Inner.{offeredBy, unoffered}
 use Rattle.runner.specs.Names.{Counters, PipelineCpu, Plan, Stages, Taken, keepWaiting}
 

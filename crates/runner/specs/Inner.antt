@@ -1,13 +1,12 @@
 -- Definitions that only the contracts of inner functions cite. No claim and no public promise rests on them.
 use Prim.Native.Nat.{_+_, _-_, _≤_, ℕ}
-use lib.Dec.{ltb}
 use lib.ListN.{drop, length}
-use mathlib.Core.Bool.{Bool, _&&_, cond, false}
+use mathlib.Core.Bool.{cond, false}
 use mathlib.Core.List.{List}
 use mathlib.Core.Path.{_≡_}
+use Rattle.isa.specs.Machine.{Source}
 use Rattle.pipeline.specs.Plans.{planFetches}
 use Rattle.pipeline.specs.Refusals.{outOfBounds}
-use Rattle.pipeline.specs.Turn.{Source}
 use Rattle.runs.specs.Run.{Played, play, reported}
 use Rattle.sheet.specs.Sheet.{sheetCode}
 use Rattle.runner.specs.Names.{Counters, End, Nop, PipelineCpu, Plan, Ran, RawNormal, Stages, Taken}
@@ -22,10 +21,6 @@ pub record Holds (src : Source) (limit : ℕ) (l : List ℕ) (s₀ s : PipelineC
   pub used : k ≤ length l
   pub bounds : outOfBounds (s .stages) ≡ false
   pub same : reported (play src limit l s₀) ≡ later t (play src (limit - t) (drop k l) s)
-
--- how many answers are used behind a tick, of n
-unfoldable pub usedAfter : Bool → ℕ → ℕ → ℕ
-usedAfter loads k n = cond (loads && ltb k n) (k + 1) k
 
 -- what is tested before the first turn
 pub record Ready (sheet : List ℕ) (limit : ℕ) (s : PipelineCpu) : Type 0 where

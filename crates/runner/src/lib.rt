@@ -6,8 +6,10 @@ ghost use mathlib.Core.Bool.{cond};
 ghost use mathlib.Core.Path.{_≡_};
 ghost use lib.ListN.{getD};
 ghost use Rattle.pipeline.specs.Ask.{wantLoad};
-ghost use Rattle.runs.specs.Run.{play, ran, reported, runCode, sheetSource, turnOf};
-ghost use Rattle.runner.specs.Inner.{Ready, offeredBy, ranTo, unoffered, usedAfter};
+ghost use Rattle.runs.specs.Run.{play, ran, reported, runCode, turnOf};
+ghost use Rattle.sheet.specs.Sheet.{sheetSource};
+ghost use Rattle.sheet.specs.Turns.{usedAfter};
+ghost use Rattle.runner.specs.Inner.{Ready, offeredBy, ranTo, unoffered};
 use isa::Instruction;
 use isa::RawInstr;
 use isa::registers::sel;
@@ -20,19 +22,11 @@ use pipeline::Taken;
 use runs::Ran;
 use sheet::End;
 use sheet::Turn;
-use sheet::check::check;
+use sheet::answers;
+use sheet::answers::answer_at;
+use sheet::check::check_limited;
 use sheet::offer::offer_at;
 use sheet::turns::turn_by;
-
-// The next load answer; 0 where none is left, which is not looked at.
-fn answer_at(answers: &[u32], k: usize) -> u32
-    ensures { λ r. ⌜ r ≡ getD (now (answers .entry)) k 0 ⌝ }
-{
-    if k < answers.len() {
-        return answers[k];
-    }
-    0
-}
 
 // The answer that a tick takes in: the next one where it loads.
 fn answer_for(s: Stages, answers: &[u32], k: usize) -> u32
@@ -45,12 +39,7 @@ fn answer_for(s: Stages, answers: &[u32], k: usize) -> u32
 fn used_after(s: Stages, k: usize, count: usize) -> usize
     ensures { λ r. ⌜ r ≡ usedAfter (wantLoad s) k count ⌝ }
 {
-    if s.wants_load() {
-        if k < count {
-            return k + 1;
-        }
-    }
-    k
+    answers::used_after(s.wants_load(), k, count)
 }
 
 // What the turn does; `none`: no answer is left.
@@ -142,12 +131,9 @@ fn play(state: PipelineCpu, sheet: &[u8], answers: &[u32], limit: u32) -> Ran
 fn code(state: PipelineCpu, sheet: &[u8], limit: u32) -> u32
     ensures { λ r. ⌜ r ≡ runCode state (now (sheet .entry)) limit ⌝ }
 {
-    let k = check(sheet);
+    let k = check_limited(sheet, limit);
     if 0 < k {
         return k;
-    }
-    if 1000000 < limit {
-        return 7;
     }
     let s = state.stages;
     if s.out_of_bounds() {

@@ -2,7 +2,6 @@
 use Prim.Native.Nat.{_<_, _≤_, suc, ℕ}
 use borrow.Author.Tests.{ne-eqb}
 use mathlib.Core.Bool.{Bool, cond, false, true}
-use mathlib.Core.List.{List}
 use mathlib.Core.Path.{_≡_}
 use native.Mathlib.Omega.{arith}
 use Rattle.accuracy.proofs.Sense.{bit-le}
@@ -11,7 +10,7 @@ use Rattle.pipeline.specs.Counting.{countIdle, countRetired, counted, counterFu
 use Rattle.pipeline.specs.Move.{moveOf}
 use Rattle.pipeline.specs.Retire.{retire, retireStages}
 use Rattle.pipeline.specs.Start.{fresh}
-use Rattle.runs.specs.Names.{Mode, Move, PipelineCpu, Taken}
+use Rattle.runs.specs.Names.{Move, PipelineCpu, Start, Taken}
 
 -- every counter of s is at most t
 pub record Low (s : PipelineCpu) (t : ℕ) : Type 0 where
@@ -75,8 +74,7 @@ low-room s t w h = rw (
 )
 
 -- a fresh state's counters are 0
-pub fresh-low : (regs : List ℕ) (pc : ℕ) (mode : Mode) (user : Bool) (features : ℕ)
-    → Low (fresh regs pc mode user features) 0
+pub fresh-low : (v : Start) → Low (fresh v) 0
 unfolding fresh
-fresh-low regs pc mode user features =
+fresh-low v =
     low-by (omega arith) (omega arith) (omega arith) (omega arith) (omega arith)

@@ -9,30 +9,30 @@ use native.Mathlib.Omega.{arith}
 use Rattle.accuracy.proofs.Accuracy.{Inv, Now, Step, committed, live, over, quiet, start-live, step-by}
 use Rattle.accuracy.proofs.Path.{due}
 use Rattle.accuracy.proofs.Timing.{due-time, time-path}
-use Rattle.accuracy.specs.Accuracy.{Run, archWith, begin, oneBy}
+use Rattle.accuracy.specs.Accuracy.{Run, begin, oneBy}
 use Rattle.accuracy.specs.Count.{path, retireTick}
-use Rattle.isa.specs.Machine.{Arch, Program, first, isEmpty, machine}
+use Rattle.isa.specs.Machine.{Arch, Program, Source, archWith, first, isEmpty, machine, programOf}
 use Rattle.pipeline.specs.Ask.{wantLoad}
 use Rattle.pipeline.specs.Start.{fresh}
 use Rattle.pipeline.specs.Tick.{Result, moved, refused, tick}
-use Rattle.pipeline.specs.Turn.{Source, reply}
+use Rattle.pipeline.specs.Turn.{reply}
 use Rattle.runs.proofs.Plays.{play-stopped}
 use Rattle.runs.proofs.Ticks.{feeds, meets}
 use Rattle.runs.proofs.Turns.{turn-load, turn-rests}
 use Rattle.runs.specs.Claims.{HaltedReport}
-use Rattle.runs.specs.Names.{End, Ends, Given, Halted, Mode, PipelineCpu, Spent, Ticks, Turn}
-use Rattle.runs.specs.Run.{Played, ended, leftAfter, more, play, playBy, programOf, reported, turnOf}
+use Rattle.runs.specs.Names.{End, Ends, Given, Halted, PipelineCpu, Spent, Start, Ticks, Turn}
+use Rattle.runs.specs.Run.{Played, ended, leftAfter, more, play, playBy, reported, turnOf}
 
 -- a run with no tick left ends halted only where the machine has stopped
 last-end : (b : Bool) → cond b Spent Halted ≡ Halted → b ≡ false
 last-end true e = cc
 last-end false e = refl
 
-module _ (src : Source) (user : Bool) (features : ℕ) (w : Arch) (len : length (w .reg) ≡ 32)
+module _ (src : Source) (v : Start) (w : Arch) (len : length (w .reg) ≡ 32)
     (nought : getD (w .reg) 0 0 ≡ 0) where
   -- the machine's program
   abbrev P : Program
-  P = programOf src user features
+  P = programOf src v
 
   -- a run, t ticks behind the start, that halts at instruction K
   record Halts (t : ℕ) (p : Played) : Type 0 where
@@ -105,24 +105,23 @@ module _ (src : Source) (user : Bool) (features : ℕ) (w : Arch) (len : length 
       halts-by r l (turnOf (r .state .stages) (r .state .counts) false (isEmpty l)) (tick (r .state) t)
       (λ s. play src n l′ s) ru refl e
       (λ s q e′ g. halts-next r (oneBy (moved s) t r) k n l′ ru
-      (step-by P w len nought r t (moved s) q l l′ k i (λ s′ a. meets src user features (r .state) (first l))
-      (feeds src user features (r .state) s l g))
+      (step-by P w len nought r t (moved s) q l l′ k i (λ s′ a. meets src v (r .state) (first l))
+      (feeds src v (r .state) s l g))
       (λ j ru′ i′. halts-run n l′ (oneBy (moved s) t r) j ru′ i′ e′))
 
 -- from the start
-pub run-halted : (src : Source) (regs : List ℕ) (pc : ℕ) (mode : Mode) (user : Bool) (features : ℕ)
-    → length regs ≡ 32 → (limit : ℕ) (l : List ℕ)
-    → let p = play src limit l (fresh regs pc mode user features) in
+pub run-halted : (src : Source) (v : Start) → length (v .reg) ≡ 32 → (limit : ℕ) (l : List ℕ)
+    → let p = play src limit l (fresh v) in
     p .end ≡ Halted
-    → HaltedReport (programOf src user features) (archWith regs pc mode l) (p .state .counts .«instructions_executed»)
+    → HaltedReport (programOf src v) (archWith v l) (p .state .counts .«instructions_executed»)
     (reported p)
 unfolding begin fresh programOf archWith reported
-run-halted src regs pc mode user features len limit l e =
-    let prog = programOf src user features in
-    let w = archWith regs pc mode l in
-    let p = play src limit l (fresh regs pc mode user features) in
-    let h = halts-run src user features w (length-set regs 0 0 ∙ len) (getD-set-same regs 0 0 0 (omega arith)) limit l
-    (begin regs pc mode user features) 0 refl (live 0 0 0 (start-live prog regs pc mode l) refl) e in
+run-halted src v len limit l e =
+    let prog = programOf src v in
+    let w = archWith v l in
+    let p = play src limit l (fresh v) in
+    let h = halts-run src v w (length-set (v .reg) 0 0 ∙ len) (getD-set-same (v .reg) 0 0 0 (omega arith)) limit l
+    (begin v) 0 refl (live 0 0 0 (start-live prog v refl refl l) refl) e in
     let c = h .count in
     record {
       ticks = (let t = h .ticks in

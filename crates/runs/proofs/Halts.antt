@@ -4,7 +4,7 @@ use borrow.Author.Tests.{ltb-false, ltb-true}
 use lib.Dec.{ltb}
 use lib.ListN.{getD, length, length-set}
 use lib.Seq.{getD-set-same}
-use mathlib.Core.Bool.{Bool, false, false≢true, true}
+use mathlib.Core.Bool.{false, false≢true, true}
 use mathlib.Core.List.{List}
 use mathlib.Core.Path.{_∙_, _≡_, ap, refl, subst, sym}
 use native.Mathlib.Omega.{arith}
@@ -13,16 +13,16 @@ use Rattle.accuracy.proofs.Bounds.{fresh-in}
 use Rattle.accuracy.proofs.Inv.{Live}
 use Rattle.accuracy.proofs.Path.{due}
 use Rattle.accuracy.proofs.Timing.{due-time, time-path}
-use Rattle.accuracy.specs.Accuracy.{Run, archWith, begin, oneBy}
+use Rattle.accuracy.specs.Accuracy.{Run, begin, oneBy}
 use Rattle.accuracy.specs.Count.{path, retireTick}
 use Rattle.isa.proofs.Bools.{split}
 use Rattle.isa.proofs.Machine.{did-next}
-use Rattle.isa.specs.Machine.{Arch, Program, first, machine}
+use Rattle.isa.specs.Machine.{Arch, Program, Source, archWith, first, machine, programOf}
 use Rattle.pipeline.specs.Advance.{next}
 use Rattle.pipeline.specs.Refusals.{outOfBounds}
 use Rattle.pipeline.specs.Start.{fresh}
 use Rattle.pipeline.specs.Tick.{moved, taken}
-use Rattle.pipeline.specs.Turn.{Source, reply}
+use Rattle.pipeline.specs.Turn.{reply}
 use Rattle.sheet.proofs.Fair.{Fair}
 use Rattle.runs.proofs.Counters.{Low, fresh-low, low-room, next-low}
 use Rattle.runs.proofs.Due.{due-mono, live-late}
@@ -31,21 +31,21 @@ use Rattle.runs.proofs.Replies.{goes-reply, stays-in}
 use Rattle.runs.proofs.Ticks.{feeds, meets}
 use Rattle.runs.proofs.Turns.{turn-goes}
 use Rattle.runs.proofs.Unstopped.{has-answer, not-faulty}
-use Rattle.runs.specs.Names.{Given, Halted, Mode, PipelineCpu}
-use Rattle.runs.specs.Run.{Played, ended, leftAfter, more, play, programOf}
+use Rattle.runs.specs.Names.{Given, Halted, PipelineCpu, Start}
+use Rattle.runs.specs.Run.{Played, ended, leftAfter, more, play}
 
 -- a run that ends halted with N retired
 pub record HaltsWith (N : ℕ) (p : Played) : Type 0 where
   pub end : p .end ≡ Halted
   pub retired : p .state .counts .«instructions_executed» ≡ N
 
-module _ (src : Source) (ok : Fair (src .raw)) (user : Bool) (features : ℕ) (w : Arch)
+module _ (src : Source) (ok : Fair (src .raw)) (v : Start) (w : Arch)
     (len : length (w .reg) ≡ 32) (nought : getD (w .reg) 0 0 ≡ 0) (K : ℕ)
-    (did : (machine (programOf src user features) w (suc K)) .done ≡ suc K)
-    (down : (machine (programOf src user features) w (suc K)) .runs ≡ false) where
+    (did : (machine (programOf src v) w (suc K)) .done ≡ suc K)
+    (down : (machine (programOf src v) w (suc K)) .runs ≡ false) where
   -- the machine's program
   abbrev P : Program
-  P = programOf src user features
+  P = programOf src v
 
   -- one tick before a run
   with-more : (t : Given) (p : Played) → HaltsWith (suc K) p → HaltsWith (suc K) (more t p)
@@ -125,31 +125,31 @@ module _ (src : Source) (ok : Fair (src .raw)) (user : Bool) (features : ℕ) (w
       (sym (play-goes src n l (r .state) s (turn-goes (r .state) l (lv .running) a b d) e))
       (with-more g _ (halts-next r r′ k n l′ (lv .running) h
       (step-by P w len nought r g (moved s) e l l′ k (live n₁ n₂ t lv c)
-      (λ s′ q. meets src user features (r .state) (first l)) (feeds src user features (r .state) s l d))
+      (λ s′ q. meets src v (r .state) (first l)) (feeds src v (r .state) s l d))
       (λ j m₁ m₂ t′ h′ lv′ c′. halts-on n l′ r′ j m₁ m₂ t′ y′ h′ lv′ c′)))
 
 -- from the start; N is not 0, since the machine runs before its first step
 pub run-halts : (src : Source) → Fair (src .raw)
-    → (regs : List ℕ) (pc : ℕ) (mode : Mode) (user : Bool) (features : ℕ) → length regs ≡ 32
+    → (v : Start) → length (v .reg) ≡ 32
     → (limit : ℕ) (l : List ℕ) → limit ≤ 1000000
-    → (N : ℕ) → (machine (programOf src user features) (archWith regs pc mode l) N) .done ≡ N
-    → (machine (programOf src user features) (archWith regs pc mode l) N) .runs ≡ false
-    → retireTick (programOf src user features)
-    (λ n. path (programOf src user features) (archWith regs pc mode l) n) N
+    → (N : ℕ) → (machine (programOf src v) (archWith v l) N) .done ≡ N
+    → (machine (programOf src v) (archWith v l) N) .runs ≡ false
+    → retireTick (programOf src v)
+    (λ n. path (programOf src v) (archWith v l) n) N
     ≤ limit
-    → HaltsWith N (play src limit l (fresh regs pc mode user features))
+    → HaltsWith N (play src limit l (fresh v))
 unfolding begin programOf archWith machine
-run-halts src ok regs pc mode user features len limit l small zero did down le = absurd (false≢true (sym down))
-run-halts src ok regs pc mode user features len limit l small (suc K) did down le =
-    let prog = programOf src user features in
-    let w = archWith regs pc mode l in
+run-halts src ok v len limit l small zero did down le = absurd (false≢true (sym down))
+run-halts src ok v len limit l small (suc K) did down le =
+    let prog = programOf src v in
+    let w = archWith v l in
     let d : due prog w K ≡ retireTick prog (λ n. path prog w n) (suc K) =
     due-time prog w K ∙ sym (time-path prog w K did) in
-    halts-on src ok user features w (length-set regs 0 0 ∙ len) (getD-set-same regs 0 0 0 (omega arith)) K did down
-    limit l (begin regs pc mode user features) 0 0 0 0
+    halts-on src ok v w (length-set (v .reg) 0 0 ∙ len) (getD-set-same (v .reg) 0 0 0 (omega arith)) K did down
+    limit l (begin v) 0 0 0 0
     (record {
-      sound = fresh-in regs pc mode user features;
-      low = fresh-low regs pc mode user features;
+      sound = fresh-in v;
+      low = fresh-low v;
       enough = omega arith;
       room = omega arith;
-    }) (omega arith) (start-live prog regs pc mode l) refl
+    }) (omega arith) (start-live prog v refl refl l) refl

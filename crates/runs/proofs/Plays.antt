@@ -3,11 +3,11 @@ use Prim.Native.Nat.{suc, zero, ℕ}
 use mathlib.Core.Bool.{Bool, cond, false, true}
 use mathlib.Core.List.{List}
 use mathlib.Core.Path.{_≡_, ap}
-use Rattle.isa.specs.Machine.{first, isEmpty}
+use Rattle.isa.specs.Machine.{Source, first, isEmpty}
 use Rattle.pipeline.specs.Counting.{counterFull}
 use Rattle.pipeline.specs.Refusals.{faulty}
 use Rattle.pipeline.specs.Tick.{moved, tick}
-use Rattle.pipeline.specs.Turn.{Source, reply}
+use Rattle.pipeline.specs.Turn.{reply}
 use Rattle.sheet.specs.Turns.{turnBy}
 use Rattle.runs.specs.Names.{End, Ends, Halted, PipelineCpu, Spent, Ticks}
 use Rattle.runs.specs.Run.{ended, leftAfter, more, play, playBy, turnOf}

@@ -4,13 +4,14 @@ use mathlib.Core.Bool.{Bool, cond, false, true}
 use mathlib.Core.Path.{_≡_, refl}
 use Rattle.accuracy.proofs.Bounds.{tick-in}
 use Rattle.accuracy.proofs.Took.{takes}
+use Rattle.isa.specs.Machine.{Source}
 use Rattle.isa.specs.Refusals.{isOf, rawCode}
 use Rattle.pipeline.specs.Advance.{next}
 use Rattle.pipeline.specs.Ask.{fetchAt, wantFetch, wantLoad}
 use Rattle.pipeline.specs.Counting.{counterFull}
 use Rattle.pipeline.specs.Refusals.{faulty, outOfBounds}
 use Rattle.pipeline.specs.Tick.{fitsOffer, isAnswer, moved, offerCode, same, taken, tick}
-use Rattle.pipeline.specs.Turn.{Source, reply}
+use Rattle.pipeline.specs.Turn.{reply}
 use Rattle.sheet.proofs.Fair.{Fair}
 use Rattle.runs.specs.Names.{Instr, Mode, NoAnswer, Nothing, PipelineCpu, RawInstr, Word}
 

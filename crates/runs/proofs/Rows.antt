@@ -3,7 +3,7 @@ use mathlib.Core.Path.{refl}
 use Rattle.isa.specs.Effect.{branches, effectN, effectOf, effectS, fall, gives, goesBy, goesOn, identifies, jumps}
 use Rattle.isa.specs.Effect.{links, marked, noAccess, noMarks, noResult, nothing, privileged, raises, reaches, resumes}
 use Rattle.isa.specs.Effect.{sets, size, stops, written}
-use Rattle.isa.specs.Machine.{destOf, first, isEmpty, rest}
+use Rattle.isa.specs.Machine.{destOf, first, isEmpty, rest, zeroStart}
 use Rattle.isa.specs.Operands.{bare, binary, branching, gpr, loading, okDest, okOperands, operandsN, operandsOf}
 use Rattle.isa.specs.Operands.{operandsS, plain, reads, special, storing, unary, writes}
 use Rattle.isa.specs.Redirects.{isException, isMtsr, isTo, modeOr, newModeOr, targetOr}
@@ -34,8 +34,8 @@ use Rattle.pipeline.specs.Tick.{wordIn}
 use Rattle.pipeline.specs.Turn.{reply}
 use Rattle.sheet.specs.Records.{both, farOf, halfOf, jumpOf, lineIf, offsetOf, plainOf, recordOf, threeOf, within}
 use Rattle.sheet.specs.Records.{zeros}
-use Rattle.sheet.specs.Sheet.{badLength, codeAt, firstCode, lineOffer, offerAt, offerIn, pairOffer, recordAt}
-use Rattle.sheet.specs.Sheet.{firstRefused, recordCode, sheetCode, unknownOf}
+use Rattle.sheet.specs.Sheet.{badLength, codeAt, firstCode, firstRefused, limitedCode, lineOffer, offerAt, offerIn}
+use Rattle.sheet.specs.Sheet.{pairOffer, recordAt, recordCode, sheetCode, unknownOf}
 use Rattle.sheet.specs.Turns.{turnBy}
 use Rattle.word.proofs.Rows.{rows as arithmetic}
 use Rattle.word.specs.Words.{add32, and32, bit, div32, divu32, ldih32, ldil32, mod32, mul32, mulh32, offset32, or32}
@@ -51,16 +51,17 @@ unfolding bit add32 sub32 offset32 and32 or32 xor32 sll32 srl32 sra32 slt32 sltu
     okOperands isTo targetOr modeOr newModeOr isException isMtsr instructionCode rawCode decodedCode isOf isReg
     readReg putReg isDest isNamed nibble lowBits shortBy decodeShort decodedOf waits isUsed isNegative predictBy
     predict both zeros lineIf plainOf threeOf offsetOf halfOf jumpOf farOf within recordOf recordAt unknownOf
-    lineOffer pairOffer offerIn offerAt recordCode codeAt firstRefused firstCode badLength sheetCode turnBy badWidth badIfId
-    badIdEx badExMem badMemWb idExBy idExOf decodePredicted loadUse effectIn exMemOf mispredict operandB effectFrom
-    cpuidWord fromMemWb fromExMem forwardFrom emptyIfId emptyIdEx emptyExMem emptyMemWb cleared loads stores destAfter
-    writesAfter valueAfter passedOn memWbOf halts retireReg retireCpuid retiredRegs retiredPc retiredMode isFaulty
-    placeAfter ifIdAfter idExAfter waitAfter advanceBy advanceStages advance awake resting next wantFetch fetchAt
-    loadsIn wantLoad countRetired stalls flushes counted countIdle isFull counterFull effectFor executedBy executed
-    redirectBy redirectOf predicted placeOr fetchFrom fetchPlace fetches fetched nextIdEx waitsOn hazard isSlow
-    beginsWait proceedOr moveFrom freeMove move isWait nextExMem andThen outOfBounds faulty stateTests retireStages
-    retire fresh offerCode fitsOffer isAnswer same rawOf wordIn taken verdict givenTests tests tick reply seen row
-    haltSheet loadSheet turnOf ended more playBy leftAfter play reported runCode refusedRun ran
+    lineOffer pairOffer offerIn offerAt recordCode codeAt firstRefused firstCode badLength sheetCode turnBy badWidth
+    badIfId badIdEx badExMem badMemWb idExBy idExOf decodePredicted loadUse effectIn exMemOf mispredict operandB
+    effectFrom cpuidWord fromMemWb fromExMem forwardFrom emptyIfId emptyIdEx emptyExMem emptyMemWb cleared loads
+    stores destAfter writesAfter valueAfter passedOn memWbOf halts retireReg retireCpuid retiredRegs retiredPc
+    retiredMode isFaulty placeAfter ifIdAfter idExAfter waitAfter advanceBy advanceStages advance awake resting next
+    wantFetch fetchAt loadsIn wantLoad countRetired stalls flushes counted countIdle isFull counterFull effectFor
+    executedBy executed redirectBy redirectOf predicted placeOr fetchFrom fetchPlace fetches fetched nextIdEx waitsOn
+    hazard isSlow beginsWait proceedOr moveFrom freeMove move isWait nextExMem andThen outOfBounds faulty stateTests
+    retireStages retire zeroStart fresh offerCode fitsOffer isAnswer same rawOf wordIn taken verdict givenTests tests
+    tick reply seen row haltSheet loadSheet turnOf ended more playBy leftAfter play reported limitedCode runCode
+    refusedRun ran
 rows = record {
   halt = refl;
   four = refl;

@@ -10,15 +10,15 @@ use Rattle.accuracy.proofs.Accuracy.{demand3-fed}
 use Rattle.accuracy.proofs.Feeding.{Fed, FeedsBy}
 use Rattle.accuracy.proofs.Offers.{AllMeet, Meets, reply-offer}
 use Rattle.accuracy.specs.Accuracy.{Run, after, begin, one, oneBy}
-use Rattle.isa.specs.Machine.{Program, first, isEmpty}
+use Rattle.isa.specs.Machine.{Program, Source, first, isEmpty, programOf, zeroStart}
 use Rattle.pipeline.specs.Advance.{next}
 use Rattle.pipeline.specs.Ask.{wantLoad}
 use Rattle.pipeline.specs.Tick.{Result, moved, refused, tick, wordIn}
-use Rattle.pipeline.specs.Turn.{Source, reply}
+use Rattle.pipeline.specs.Turn.{reply}
 use Rattle.runs.proofs.Turns.{turn-load}
 use Rattle.runs.specs.Claims.{RanTicks, RunRetires, RunTicks}
-use Rattle.runs.specs.Names.{End, Ends, NoAnswer, PipelineCpu, Ticks, Turn, Word}
-use Rattle.runs.specs.Run.{Played, ended, leftAfter, more, play, playBy, programOf, turnOf}
+use Rattle.runs.specs.Names.{End, Ends, NoAnswer, PipelineCpu, Start, Ticks, Turn, Word}
+use Rattle.runs.specs.Run.{Played, ended, leftAfter, more, play, playBy, turnOf}
 
 -- the word of an answer given where a load is wanted
 word-is : (b : Bool) (v : ℕ) → b ≡ true → wordIn (cond b (Word v) NoAnswer) ≡ v
@@ -26,10 +26,10 @@ unfolding wordIn
 word-is true v e = refl
 word-is false v e = cc
 
-module _ (src : Source) (user : Bool) (features : ℕ) where
+module _ (src : Source) (v : Start) where
   -- the machine's program
   abbrev P : Program
-  P = programOf src user features
+  P = programOf src v
 
   -- a tick of the run offers the machine's instruction
   pub meets : (s : PipelineCpu) (v : ℕ) → Meets P s (reply src v s)
@@ -43,10 +43,10 @@ module _ (src : Source) (user : Bool) (features : ℕ) where
   feeds s s′ l h = record { asked = λ e. (h e, sym (word-is (wantLoad (s .stages)) _ e)); next = refl }
 
   -- a run of at most n ticks from r with load answers l: its ticks meet the premise and feed the machine l
-  record Follows (r : Run) (n : ℕ) (l : List ℕ) (p : Played) : Type 0 where
-    ran : RanTicks r n p
-    offers : AllMeet P r (p .ticks)
-    fed : Fed P r l (p .ticks)
+  pub record Follows (r : Run) (n : ℕ) (l : List ℕ) (p : Played) : Type 0 where
+    pub ran : RanTicks r n p
+    pub offers : AllMeet P r (p .ticks)
+    pub fed : Fed P r l (p .ticks)
 
   -- a run that ends at once
   no-ticks : (e : End) (r : Run) (n : ℕ) (l : List ℕ) → Follows r n l (ended e (r .state))
@@ -101,7 +101,7 @@ module _ (src : Source) (user : Bool) (features : ℕ) where
   follows-by r n l Ticks (moved s) k a b h = more-ticks r n l s (k s) b (turn-load (r .state) l a) (h s)
 
   -- every run
-  follows : (n : ℕ) (l : List ℕ) (r : Run) → Follows r n l (play src n l (r .state))
+  pub follows : (n : ℕ) (l : List ℕ) (r : Run) → Follows r n l (play src n l (r .state))
   unfolding play oneBy
   follows zero l r = no-ticks _ r zero l
   follows (suc n) l r =
@@ -112,14 +112,14 @@ module _ (src : Source) (user : Bool) (features : ℕ) where
 
 -- the ticks of a run
 pub run-ticks : RunTicks
-run-ticks src limit l r = (follows src false 0 limit l r) .ran
+run-ticks src limit l r = (follows src zeroStart limit l r) .ran
 
 -- RULES 15.6 for a run: every N up to its retired count
 pub run-retires : RunRetires
 unfolding begin programOf
-run-retires src regs pc mode user features len limit l N a b =
-    let prog = programOf src user features in
-    let r = begin regs pc mode user features in
-    let f = follows src user features limit l r in
+run-retires src v len limit l N a b =
+    let prog = programOf src v in
+    let r = begin v in
+    let f = follows src v limit l r in
     let z = ap (λ (x : PipelineCpu). x .counts .«instructions_executed») (f .ran .state) in
-    demand3-fed prog regs pc mode len ((play src limit l (r .state)) .ticks) l (f .offers) (f .fed) N a (omega arith)
+    demand3-fed prog v refl refl len ((play src limit l (r .state)) .ticks) l (f .offers) (f .fed) N a (omega arith)

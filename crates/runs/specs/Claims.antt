@@ -3,18 +3,17 @@
 -- a turn, pipeline the tick and its refusals, isa the one-at-a-time machine, accuracy the formula and RULES 15.6.
 use Prim.Native.Nat.{_+_, _≤_, ℕ}
 use lib.ListN.{length}
-use mathlib.Core.Bool.{Bool, false}
+use mathlib.Core.Bool.{false}
 use mathlib.Core.List.{List}
 use mathlib.Core.Path.{_≡_}
-use Rattle.accuracy.specs.Accuracy.{Retires, Run, after, archWith, begin}
+use Rattle.accuracy.specs.Accuracy.{Retires, Run, after, begin}
 use Rattle.accuracy.specs.Count.{path, retireTick}
-use Rattle.isa.specs.Machine.{Arch, Program, machine}
+use Rattle.isa.specs.Machine.{Arch, Program, Source, archWith, machine, programOf}
 use Rattle.pipeline.specs.Start.{fresh}
-use Rattle.pipeline.specs.Turn.{Source}
-use Rattle.sheet.specs.Sheet.{sheetCode}
-use Rattle.runs.specs.Names.{Halted, Mode, Ran}
+use Rattle.sheet.specs.Sheet.{sheetCode, sheetSource}
+use Rattle.runs.specs.Names.{Halted, Ran, Start}
 use Rattle.runs.specs.Rows.{Rows}
-use Rattle.runs.specs.Run.{Played, play, programOf, ran, sheetSource}
+use Rattle.runs.specs.Run.{Played, play, ran}
 
 -- The ticks of a run from r: each is accepted, they are no more than the limit, and the run's state is the one that
 -- they hand back.
@@ -32,11 +31,10 @@ RunTicks =
 -- load answers that the runner was given.
 abbrev pub RunRetires : Type 0
 RunRetires =
-    (src : Source) (regs : List ℕ) (pc : ℕ) (mode : Mode) (user : Bool) (features : ℕ) → length regs ≡ 32
-    → (limit : ℕ) (l : List ℕ) (N : ℕ) → 1 ≤ N
-    → let p = play src limit l (fresh regs pc mode user features) in
+    (src : Source) (v : Start) → length (v .reg) ≡ 32 → (limit : ℕ) (l : List ℕ) (N : ℕ) → 1 ≤ N
+    → let p = play src limit l (fresh v) in
     N ≤ p .state .counts .«instructions_executed»
-    → Retires (programOf src user features) (archWith regs pc mode l) (begin regs pc mode user features) (p .ticks) N
+    → Retires (programOf src v) (archWith v l) (begin v) (p .ticks) N
 
 -- The runner itself, on a sheet's bytes: a report that ends halted with N retired has the formula of N as its ticks,
 -- and the registers of the machine, which has then halted too.
@@ -49,23 +47,20 @@ pub record HaltedReport (prog : Program) (w : Arch) (N : ℕ) (r : Ran) : Type 0
 -- Every report of a run from a fresh state that ends halted is such.
 abbrev pub SheetHalted : Type 0
 SheetHalted =
-    (sheet : List ℕ) (regs : List ℕ) (pc : ℕ) (mode : Mode) (user : Bool) (features : ℕ) → length regs ≡ 32
-    → (limit : ℕ) (l : List ℕ)
-    → let r = ran (fresh regs pc mode user features) sheet l limit in
+    (sheet : List ℕ) (v : Start) → length (v .reg) ≡ 32 → (limit : ℕ) (l : List ℕ)
+    → let r = ran (fresh v) sheet l limit in
     r .end ≡ Halted
-    → HaltedReport (programOf (sheetSource sheet) user features) (archWith regs pc mode l)
-    (r .state .counts .«instructions_executed») r
+    → HaltedReport (programOf (sheetSource sheet) v) (archWith v l) (r .state .counts .«instructions_executed») r
 
 -- The converse: a sheet that is not refused, on which the machine halts after N instructions, all done, and the
 -- formula of N is within the limit, is reported halted with N retired.
 abbrev pub SheetHalts : Type 0
 SheetHalts =
     (sheet : List ℕ) → sheetCode sheet ≡ 0
-    → (regs : List ℕ) (pc : ℕ) (mode : Mode) (user : Bool) (features : ℕ) → length regs ≡ 32
-    → (limit : ℕ) (l : List ℕ) → limit ≤ 1000000
-    → let prog = programOf (sheetSource sheet) user features in
-    let w = archWith regs pc mode l in
-    let r = ran (fresh regs pc mode user features) sheet l limit in
+    → (v : Start) → length (v .reg) ≡ 32 → (limit : ℕ) (l : List ℕ) → limit ≤ 1000000
+    → let prog = programOf (sheetSource sheet) v in
+    let w = archWith v l in
+    let r = ran (fresh v) sheet l limit in
     (N : ℕ) → (machine prog w N) .done ≡ N → (machine prog w N) .runs ≡ false
     → retireTick prog (λ n. path prog w n) N ≤ limit
     → (r .end ≡ Halted) × (r .state .counts .«instructions_executed» ≡ N)

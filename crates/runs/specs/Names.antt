@@ -1,6 +1,6 @@
 -- The declared types and constructors that this crate names, each under the name that the declaring crate gives it.
 pub use Rattle.isa.specs.declared.Mode.{Mode}
-pub use Rattle.isa.specs.declared.Mode.the-variants.{Normal}
+pub use Rattle.isa.specs.declared.Start.{Start}
 pub use Rattle.isa.specs.declared.RawInstr.{RawInstr}
 pub use Rattle.isa.specs.declared.Request.{Request}
 pub use Rattle.sheet.specs.declared.End.{End}

@@ -1,13 +1,14 @@
 -- The rows of RULES 22.1, run from their sheets' bytes: one table, one claim.
 use Prim.Native.Nat.{ℕ}
-use lib.ListN.{getD, replicate}
+use lib.ListN.{getD}
 use mathlib.Core.Bool.{false, true}
 use mathlib.Core.List.{List, [], _∷_, map}
 use mathlib.Core.Path.{_≡_}
+use Rattle.isa.specs.Machine.{zeroStart}
 use Rattle.latch.specs.Bounds.{badWidth}
 use Rattle.pipeline.specs.Start.{fresh}
 use Rattle.word.specs.Rows.{Rows as Arithmetic}
-use Rattle.runs.specs.Names.{End, EndRefused, Halted, Loads, Normal, Ran, Spent}
+use Rattle.runs.specs.Names.{End, EndRefused, Halted, Loads, Ran, Spent}
 use Rattle.runs.specs.Run.{ran}
 
 -- the end; ticks used, retired, stalls, flushes, and register r
@@ -20,7 +21,7 @@ seen r p = (
 
 -- a sheet's run with a tick limit and load answers, from address 0, Normal, supervisor, registers and feature word 0
 unfoldable pub row : List ℕ → ℕ → List ℕ → ℕ → End × List ℕ
-row sheet limit answers r = seen r (ran (fresh (replicate 32 0) 0 Normal false 0) sheet answers limit)
+row sheet limit answers r = seen r (ran (fresh zeroStart) sheet answers limit)
 
 unfoldable pub haltSheet : List ℕ
 haltSheet = 0x02 ∷ 0x00 ∷ 0x00 ∷ 0x00 ∷ 0x00 ∷ []

@@ -4,15 +4,13 @@ use lib.Dec.{ltb}
 use lib.ListN.{length}
 use mathlib.Core.Bool.{Bool, _&&_, cond, false}
 use mathlib.Core.List.{List, [], _∷_}
-use Rattle.accuracy.specs.Accuracy.{wholeProgram}
-use Rattle.isa.specs.Machine.{Program, first, isEmpty, rest}
-use Rattle.isa.specs.Short.{decodedOf}
+use Rattle.isa.specs.Machine.{Source, first, isEmpty, rest}
 use Rattle.pipeline.specs.Ask.{wantLoad}
 use Rattle.pipeline.specs.Counting.{counterFull}
 use Rattle.pipeline.specs.Refusals.{faulty, outOfBounds}
 use Rattle.pipeline.specs.Tick.{Result, moved, refused, tick}
-use Rattle.pipeline.specs.Turn.{Source, reply}
-use Rattle.sheet.specs.Sheet.{offerAt, sheetCode}
+use Rattle.pipeline.specs.Turn.{reply}
+use Rattle.sheet.specs.Sheet.{limitedCode, sheetSource}
 use Rattle.sheet.specs.Turns.{turnBy}
 use Rattle.runs.specs.Names.{Counters, End, EndRefused, Ends, Given, Halted, PipelineCpu, Ran, Spent, Stages}
 use Rattle.runs.specs.Names.{Ticks, Turn}
@@ -56,22 +54,14 @@ play src (suc n) l s =
 unfoldable pub reported : Played → Ran
 reported p = record { end = p .end; ticks = length (p .ticks); state = p .state }
 
--- the program of the one-at-a-time machine
-unfoldable pub programOf : Source → Bool → ℕ → Program
-programOf src user features = wholeProgram user features (λ p m. decodedOf (src .raw p m))
-
 -- the refusals before the first turn: 6, per record 5, 1, 2; 7: a limit above 1,000,000; 11
 unfoldable pub runCode : PipelineCpu → List ℕ → ℕ → ℕ
 runCode s sheet limit =
-    cond (ltb 0 (sheetCode sheet)) (sheetCode sheet) (cond (ltb 1000000 limit) 7 (cond (outOfBounds (s .stages)) 11 0))
+    cond (ltb 0 (limitedCode sheet limit)) (limitedCode sheet limit) (cond (outOfBounds (s .stages)) 11 0)
 
 -- a run refused before its first tick gives the state that it was given
 unfoldable pub refusedRun : ℕ → PipelineCpu → Ran
 refusedRun n s = record { end = EndRefused n; ticks = 0; state = s }
-
--- what a sheet offers
-abbrev pub sheetSource : List ℕ → Source
-sheetSource sheet = record { raw = offerAt sheet }
 
 -- the runner: a state, a sheet's bytes, load answers and a tick limit
 unfoldable pub ran : PipelineCpu → List ℕ → List ℕ → ℕ → Ran

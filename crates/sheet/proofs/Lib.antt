@@ -1,1 +1,3 @@
 pub mod Fair
+pub mod Left
+pub mod Limit

@@ -4,6 +4,7 @@ use lib.Dec.{eqb, ltb}
 use lib.ListN.{getD, length}
 use mathlib.Core.Bool.{Bool, _||_, cond, not}
 use mathlib.Core.List.{List}
+use Rattle.isa.specs.Machine.{Source}
 use Rattle.isa.specs.Refusals.{instructionCode}
 use Rattle.sheet.specs.Names.{Instruction, Line, Mode, NoRecord, Normal, Pair, RawInstr, RawNormal, RawShort}
 use Rattle.sheet.specs.Names.{Record, Short, Unknown}
@@ -42,6 +43,10 @@ offerIn (Pair h g) k m = pairOffer h g k m
 unfoldable pub offerAt : List ℕ → ℕ → Mode → RawInstr
 offerAt l p m = offerIn (recordAt l (p / 4)) (p % 4) m
 
+-- what a run over it is offered
+abbrev pub sheetSource : List ℕ → Source
+sheetSource l = record { raw = offerAt l }
+
 -- per record 5: no such command, or an unused byte not zero; else the code of its instruction
 unfoldable pub recordCode : Record → ℕ
 recordCode NoRecord = 5
@@ -68,3 +73,7 @@ badLength n = not (eqb (n % 5) 0) || ltb 20480 n
 -- the refusal of a whole sheet, 0 for none
 unfoldable pub sheetCode : List ℕ → ℕ
 sheetCode l = cond (badLength (length l)) 6 (firstCode l (length l / 5))
+
+-- the same, then 7: a limit above 1,000,000
+unfoldable pub limitedCode : List ℕ → ℕ → ℕ
+limitedCode l limit = cond (ltb 0 (sheetCode l)) (sheetCode l) (cond (ltb 1000000 limit) 7 0)

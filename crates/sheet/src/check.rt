@@ -1,6 +1,7 @@
 // The check of a whole sheet.
 ghost use mathlib.Core.Path.{_≡_};
-ghost use Rattle.sheet.specs.Sheet.{badLength, codeAt, firstCode, firstRefused, recordCode, sheetCode};
+ghost use Rattle.sheet.specs.Sheet.{badLength, codeAt, firstCode, firstRefused, limitedCode, recordCode};
+ghost use Rattle.sheet.specs.Sheet.{sheetCode};
 use crate::Record;
 use crate::offer::record_at;
 
@@ -65,4 +66,18 @@ pub fn check(sheet: &[u8]) -> u32
         return 6;
     }
     first_code(sheet, (n / 5) as u32)
+}
+
+// The same, then 7: a limit above 1,000,000.
+pub fn check_limited(sheet: &[u8], limit: u32) -> u32
+    ensures { λ r. ⌜ r ≡ limitedCode (now (sheet .entry)) limit ⌝ }
+{
+    let k = check(sheet);
+    if 0 < k {
+        return k;
+    }
+    if 1000000 < limit {
+        return 7;
+    }
+    0
 }

@@ -3,8 +3,12 @@
 // Wrong programs that the promises rule out, for each function two:
 // - check: 1 for a record with a register above 31 and an unused byte not zero; 20,485 bytes accepted.
 // - first_refused: a record with an unused byte not zero passed over; the last refused record.
+// - check_limited: 7 before 6; 7 for a limit of 1,000,000.
 // - offer_at: the second halfword of a pair at its first address; a NOP outside the sheet.
 // - turn_by: spent before halted; loads before refused 12.
+// - answer_at: the answer before; the last one where none is left.
+// - used_after: one more where nothing is loaded; one more where none is left.
+pub mod answers;
 pub mod check;
 pub mod offer;
 mod records;

@@ -1,7 +1,7 @@
 // Reads a step sheet from standard input, runs it and writes how it ended; to standard error, why it was refused.
 ghost use mathlib.Core.Path.{_≡_};
 ghost use Rattle.tickrun.specs.Outcome.{outcome};
-use isa::Mode;
+use isa::Start;
 use pipeline::PipelineCpu;
 use runs::Ran;
 
@@ -9,7 +9,7 @@ use runs::Ran;
 fn outcome(sheet: &[u8]) -> Ran
     ensures { λ r. ⌜ r ≡ outcome (now (sheet .entry)) ⌝ }
 {
-    let start = PipelineCpu::start([0u32; 32], 0, Mode::Normal, false, 0);
+    let start = PipelineCpu::start(Start::zero());
     let answers = [0u32; 1];
     runner::run(start, sheet, &answers[..0], 1000000)
 }

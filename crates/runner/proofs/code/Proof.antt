@@ -10,24 +10,17 @@ pub code-spec : {M : Type 1} → statement M
 unfolding runCode
 code-spec = tie.close (tie.spec
     (λ c κs. search needs)
-    (λ c. rw (sym (c .before .check .ensures), lt-ltb 0 _ (c .if1 .taken)))
-    (λ c. rw (
-      sym (c .before .before .check .ensures),
-      le-ltb 0 _ (c .before .if1 .left),
-      lt-ltb 1000000 _ (c .if2 .taken),
-    ))
+    (λ c. rw (sym (c .before .check-limited .ensures), lt-ltb 0 _ (c .if1 .taken)))
     (λ c κs. search needs)
     (λ c. rw (
-      sym (c .before .before .before .before .before .check .ensures),
-      le-ltb 0 _ (c .before .before .before .before .if1 .left),
-      le-ltb 1000000 _ (c .before .before .before .if2 .left),
+      sym (c .before .before .before .before .check-limited .ensures),
+      le-ltb 0 _ (c .before .before .before .if1 .left),
       sym (c .before .out-of-bounds .ensures),
-      c .if3 .taken,
+      c .if2 .taken,
     ))
     (λ c. rw (
-      sym (c .before .before .before .before .before .check .ensures),
-      le-ltb 0 _ (c .before .before .before .before .if1 .left),
-      le-ltb 1000000 _ (c .before .before .before .if2 .left),
+      sym (c .before .before .before .before .check-limited .ensures),
+      le-ltb 0 _ (c .before .before .before .if1 .left),
       sym (c .before .out-of-bounds .ensures),
-      c .if3 .left,
+      c .if2 .left,
     )))

@@ -7,9 +7,9 @@ use Rattle.tickrun.proofs.outcome.Tie as tie
 
 returns : tie.Need-returns
 unfolding outcome
-returns c = c .run .ensures ∙ rw (c .before .before .start .ensures)
+returns c = c .run .ensures ∙ rw (c .before .before .start .ensures, c .before .before .before .zero .ensures)
 
 pub outcome-spec : {M : Type 1} → statement M
 outcome-spec = tie.close (tie.spec
-    (λ c κs. search needs) (λ c. search needs) (λ c. search needs) (λ c κs. search needs)
+    (λ c κs. search needs) (λ c κs. search needs) (λ c. search needs) (λ c. search needs) (λ c κs. search needs)
     returns)

@@ -1,9 +1,9 @@
--- `latch::retire::put_reg` meets its contract. Assumes nothing.
+-- `isa::registers::put_reg` meets its contract. Assumes nothing.
 use borrow.Author.Needs.{needs}
 use Rattle.isa.proofs.IsReg.{reg-above, reg-in, reg-none}
 use Rattle.isa.specs.Registers.{putReg}
-use Rattle.latch.proofs.retire.put_reg.Statement.{statement}
-use Rattle.latch.proofs.retire.put_reg.Tie as tie
+use Rattle.isa.proofs.registers.put_reg.Statement.{statement}
+use Rattle.isa.proofs.registers.put_reg.Tie as tie
 
 pub put-reg-spec : {M : Type 1} → statement M
 unfolding putReg

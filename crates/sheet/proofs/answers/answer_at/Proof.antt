@@ -1,8 +1,8 @@
--- `runner::answer_at` meets its contract. Assumes nothing.
+-- `sheet::answers::answer_at` meets its contract. Assumes nothing.
 use borrow.Author.Needs.{needs}
-use Rattle.runner.proofs.Loop.{past-last}
-use Rattle.runner.proofs.answer_at.Statement.{statement}
-use Rattle.runner.proofs.answer_at.Tie as tie
+use Rattle.sheet.proofs.Left.{past-last}
+use Rattle.sheet.proofs.answers.answer_at.Statement.{statement}
+use Rattle.sheet.proofs.answers.answer_at.Tie as tie
 
 pub answer-at-spec : {M : Type 1} → statement M
 answer-at-spec = tie.close (tie.spec
