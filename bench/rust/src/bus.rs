@@ -30,12 +30,12 @@ pub struct Bus {
 }
 
 impl Bus {
-    /// Makes a bus with a program, whose answers are 0, 1, 2 and so on.
+    /// Makes a bus with a program, whose answers are 0.
     pub fn holding(memory: &Memory) -> Self {
         Bus {
             words: memory.words,
             halves: memory.halves,
-            answers: std::array::from_fn(|place| place as u32),
+            answers: [0; ANSWERS],
             used: 0,
             stored: [0; STORED_WORDS],
         }

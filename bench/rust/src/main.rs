@@ -1,7 +1,7 @@
 //! The original Rust pipeline, compiled unmodified, timed on a step sheet.
 //!
 //! Standard input: rounds and tick limit, four bytes each, high byte first, then the sheet.
-//! The sheet is run from its start that many times, and the ticks of all runs are printed.
+//! The sheet is run from its start that many times; the ticks and the retired instructions of all runs are printed.
 
 mod bus;
 mod cpu_cache;
@@ -21,6 +21,7 @@ mod trace_switch;
 #[path = "../../../tests/oracle/src/stand_ins/tracing.rs"]
 mod tracing;
 
+use cpu_pipeline::rounds::Total;
 use std::io::{Error, Read, Result, stdin};
 use std::process::ExitCode;
 
@@ -52,14 +53,14 @@ mod cpu_pipeline {
     include!("../../../docs/src/src/cpu_pipeline.rs");
 
     #[warn(dead_code, clippy::all)]
-    mod rounds;
+    pub mod rounds;
 }
 
-/// Prints the ticks of all runs, or says what is wrong with the input and ends with 2.
+/// Prints ticks and instructions of all runs, or says what is wrong with the input and ends with 2.
 fn main() -> ExitCode {
     match total() {
-        Ok(ticks) => {
-            println!("{ticks}");
+        Ok(total) => {
+            println!("{} {}", total.ticks, total.instructions);
             ExitCode::SUCCESS
         }
         Err(error) => {
@@ -69,8 +70,8 @@ fn main() -> ExitCode {
     }
 }
 
-/// Reads standard input, runs it and gives the ticks of all runs.
-fn total() -> Result<u64> {
+/// Reads standard input, runs it and gives the ticks and instructions of all runs.
+fn total() -> Result<Total> {
     let mut input = Vec::new();
     stdin().lock().read_to_end(&mut input)?;
     let Some((head, sheet)) = input.split_first_chunk::<8>() else {

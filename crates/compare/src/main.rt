@@ -13,6 +13,7 @@ mod number;
 mod output;
 mod place;
 mod play;
+mod played;
 mod read_instruction;
 mod read_latch;
 mod read_state;

@@ -1,15 +1,16 @@
-// Runs of the held sheet.
+// Runs and plays of the held sheet.
 use crate::answer::Reply;
 use crate::asked::Requests;
 use crate::asked::requests_of;
 use crate::place::num;
 use crate::place::set;
+use crate::played::play_of;
 use crate::read_state::state;
 use crate::write_state::set_state;
 use runs::Ran;
 use sheet::End;
 
-fn set_end(n: &mut [u32; 192], kind: u32, number: u32) {
+pub fn set_end(n: &mut [u32; 192], kind: u32, number: u32) {
     n[0] = kind;
     n[1] = number;
 }
@@ -61,20 +62,29 @@ fn run_of(n: &mut [u32; 192], sheet: &[u8], answers: &[u32]) -> Reply {
     put_run(n, ran, requests)
 }
 
-// A run with the first so many of the answers that are held.
-fn run_with(n: &mut [u32; 192], sheet: &[u8], answers: &[u32]) -> Reply {
-    let count = num(n, 123, 0) as usize;
+// The runner's run, or the player's play.
+fn either(n: &mut [u32; 192], sheet: &[u8], answers: &[u32]) -> Reply {
+    if n[0] == 0x14 {
+        return run_of(n, sheet, answers);
+    }
+    play_of(n, sheet, answers)
+}
+
+// One of them with the first so many of the answers that are held.
+fn run_with(n: &mut [u32; 192], sheet: &[u8], answers: &[u32], at: usize) -> Reply {
+    let count = num(n, at, 1) as usize;
     if count <= answers.len() {
-        return run_of(n, sheet, &answers[..count]);
+        return either(n, sheet, &answers[..count]);
     }
     Reply::Numbers(0, 0)
 }
 
-// A run of the first so many bytes that are held; an empty line where they are fewer.
-pub fn run(n: &mut [u32; 192], sheet: &[u8], answers: &[u32]) -> Reply {
-    let bytes = num(n, 122, 0) as usize;
+// One of them with the first so many bytes that are held; an empty line where they are fewer. The two numbers stand
+// at `at`.
+pub fn run(n: &mut [u32; 192], sheet: &[u8], answers: &[u32], at: usize) -> Reply {
+    let bytes = num(n, at, 0) as usize;
     if bytes <= sheet.len() {
-        return run_with(n, &sheet[..bytes], answers);
+        return run_with(n, &sheet[..bytes], answers, at);
     }
     Reply::Numbers(0, 0)
 }

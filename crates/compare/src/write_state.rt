@@ -18,10 +18,10 @@ use pipeline::PipelineCpu;
 use pipeline::Place;
 use pipeline::Stages;
 
-fn set_registers(n: &mut [u32; 192], reg: [u32; 32]) {
+pub fn set_registers(n: &mut [u32; 192], at: usize, reg: [u32; 32]) {
     let mut i: usize = 0;
     while i < 32 {
-        set(n, i, 1, reg[i]);
+        set(n, at, i, reg[i]);
         i += 1;
     }
 }
@@ -66,7 +66,7 @@ fn set_counts(n: &mut [u32; 192], s: Counters) {
 
 pub fn set_state(n: &mut [u32; 192], s: PipelineCpu) {
     let reg = s.reg;
-    set_registers(n, reg);
+    set_registers(n, 1, reg);
     let counts = s.counts;
     set_counts(n, counts);
     let stages = s.stages;

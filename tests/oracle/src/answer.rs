@@ -15,6 +15,7 @@ pub fn run(input: impl BufRead, mut output: impl Write) -> Result<()> {
         let case = line::read(&text).and_then(|numbers| Case::read(&numbers));
         let case = case.ok_or_else(|| Error::other(format!("no case: {text}")))?;
         numbers.clear();
+        answers.check(&case);
         if answers.answer(&case, &mut numbers) {
             bytes.clear();
             line::put(&numbers, &mut bytes);

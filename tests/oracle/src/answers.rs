@@ -1,10 +1,11 @@
-//! The expected answer to each case: the original's, behind the refusals of RULES 19.
+//! The expected answer to each case: the original's, behind the refusals of RULES 19; of a play, the reading's.
 
 use crate::buffers::Buffers;
 use crate::case::Case;
 use crate::cpu_pipeline::harness::arithmetic::{self, Arithmetic};
 use crate::cpu_pipeline::harness::original::Original;
 use crate::cpu_pipeline::harness::{operands, short_numbers_of};
+use crate::player;
 use crate::refusals::{self, NONE, OUT_OF_BOUNDS};
 use crate::row::Row;
 use crate::rows::{Answer, Begin, Decoded, Given, IdEx, IfId, Offer, Seen, State};
@@ -61,6 +62,7 @@ impl Answers {
             Case::PutSheet(at, block) => self.buffers.put_sheet(*at, block),
             Case::PutAnswers(at, block) => self.buffers.put_answers(*at, block),
             Case::Run(state, given) => self.run(state, given, out),
+            Case::Player(begin, given) => self.player(begin, given, out),
         }
         case.has_a_result()
     }
@@ -103,6 +105,18 @@ impl Answers {
     fn run(&mut self, state: &State, given: &Given, out: &mut Vec<u32>) {
         let task = self.buffers.task(given);
         runner::run(&mut self.original, state, &task).put(out);
+    }
+
+    /// Answers a play of the sheet held.
+    fn player(&mut self, begin: &Begin, given: &Given, out: &mut Vec<u32>) {
+        player::play(begin, &self.buffers.task(given)).put(out);
+    }
+
+    /// Panics if a case is a play that differs from the original's run of the same sheet.
+    pub fn check(&mut self, case: &Case) {
+        if let Case::Player(begin, given) = case {
+            player::check(&mut self.original, begin, &self.buffers.task(given));
+        }
     }
 
     /// Answers what a tick would ask for.

@@ -36,6 +36,7 @@ pub enum Case {
     PutSheet(u32, Block),
     PutAnswers(u32, Block),
     Run(State, Given),
+    Player(Begin, Given),
 }
 
 impl Case {
@@ -50,6 +51,7 @@ impl Case {
                 | Case::Start(_)
                 | Case::ListShow
                 | Case::Run(..)
+                | Case::Player(..)
         );
         self.has_a_result() && !without
     }

@@ -14,6 +14,7 @@ mod offer;
 mod operands;
 mod part;
 mod plain;
+mod player;
 mod program;
 mod records;
 mod run;
@@ -71,7 +72,7 @@ impl Maker {
         }
     }
 
-    /// Appends the next case of a kind, or all the lines of the next list or run.
+    /// Appends the next case of a kind, or all the lines of the next list, run or play.
     pub fn next(&mut self, kind: Kind, out: &mut Vec<Case>) {
         self.choose_few();
         let case = match kind {
@@ -91,14 +92,24 @@ impl Maker {
             Kind::Lists => return self.list(out),
             Kind::Runs => return self.run(false, out),
             Kind::Fuzz => return self.fuzz(out),
+            Kind::Player => return self.player(false, out),
         };
         out.push(case);
     }
 
-    /// Appends the lines of the next small run.
-    pub fn next_small_run(&mut self, out: &mut Vec<Case>) {
-        self.choose_few();
-        self.run(true, out);
+    /// Appends the same, but a run or a play that keeps to a line of each buffer.
+    pub fn next_small(&mut self, kind: Kind, out: &mut Vec<Case>) {
+        match kind {
+            Kind::Runs => {
+                self.choose_few();
+                self.run(true, out);
+            }
+            Kind::Player => {
+                self.choose_few();
+                self.player(true, out);
+            }
+            _ => self.next(kind, out),
+        }
     }
 
     /// Chooses the registers, words and addresses of the next case.

@@ -4,4 +4,4 @@ mod run;
 mod turns;
 
 pub use run::{End, Run, Task};
-pub use turns::{HIGHEST_LIMIT, run};
+pub use turns::{HIGHEST_LIMIT, first_bad_record, run, turn};

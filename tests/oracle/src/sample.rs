@@ -4,8 +4,9 @@ use crate::case::{Case, Kind};
 use crate::line;
 use crate::maker::Maker;
 use std::io::{Result, Write};
+use std::iter::repeat_n;
 
-/// One small run of a sheet for so many cases of the other kinds.
+/// One small run of a sheet and one small play for so many cases of the other kinds.
 const CASES_FOR_A_RUN: u64 = 16;
 
 /// Writes the case lines of one kind.
@@ -19,17 +20,15 @@ pub fn cases(kind: Kind, count: u64, seed: u64, mut out: impl Write) -> Result<(
     out.flush()
 }
 
-/// Writes so many cases in turn, then some small runs of a sheet.
+/// Writes so many cases in turn, then some small runs of a sheet, then as many small plays.
 pub fn mixed(count: u64, seed: u64, mut out: impl Write) -> Result<()> {
     let mut maker = Maker::new(seed);
-    let kinds = Kind::without_runs().cycle().take(count as usize).map(Some);
-    let runs = (0..count / CASES_FOR_A_RUN).map(|_| None);
-    for kind in kinds.chain(runs) {
+    let kinds = Kind::without_runs().cycle().take(count as usize);
+    let small = (count / CASES_FOR_A_RUN) as usize;
+    let small = [Kind::Runs, Kind::Player].map(|kind| repeat_n(kind, small));
+    for kind in kinds.chain(small.into_iter().flatten()) {
         let mut made = Vec::new();
-        match kind {
-            Some(kind) => maker.next(kind, &mut made),
-            None => maker.next_small_run(&mut made),
-        }
+        maker.next_small(kind, &mut made);
         write_cases(&made, &mut out)?;
     }
     out.flush()

@@ -52,6 +52,15 @@ fn text(path: &str) -> Result<String> {
     fs::read_to_string(path).map_err(|error| Error::other(format!("{path}: {error}")))
 }
 
+/// Tells whether some line tells a turn; lines of the kinds that must tell it are asked before all lines.
+pub fn tell(number: u32, lines: &[Asked]) -> bool {
+    let mut answers = TurnAnswers::new(number);
+    let is_of_its_kinds = |line: &&Asked| turn::told_by(number).any(|kind| kind.has(&line.case));
+    let mut likely = lines.iter().filter(is_of_its_kinds);
+    likely.any(|line| answers.answer(&line.case) != Some(&line.right))
+        || first_told(&mut TurnAnswers::new(number), lines).is_some()
+}
+
 /// Finds the first of some lines to which a turn gives another answer than the right one.
 pub fn first_told(answers: &mut TurnAnswers, lines: &[Asked]) -> Option<usize> {
     lines

@@ -8,9 +8,9 @@ use crate::turn;
 use crate::turn_answers::TurnAnswers;
 use std::io::{Result, Write};
 
-/// Groups of each kind among which the best are chosen, and the most ticks of a run among them.
+/// Groups of each kind among which the best are chosen, and the highest limit of a run or play among them.
 const POOL: usize = 400;
-const MOST_TICKS: u32 = 5_000;
+const HIGHEST_LIMIT: u32 = 5_000;
 
 /// The turns that no line tells yet, and the groups of lines chosen for the others.
 struct Choice {
@@ -30,6 +30,7 @@ pub fn run(cases: &str, count: u64, seed: u64, mut out: impl Write) -> Result<bo
     choice.take_best(&single.collect::<Vec<_>>(), seed);
     choice.take_best(&[Kind::Lists], seed);
     choice.take_best(&[Kind::Runs], seed);
+    choice.take_best(&[Kind::Player], seed);
     choice.search_each(count, seed);
     let text = choice.text();
     out.write_all(&text)?;
@@ -83,7 +84,7 @@ impl Choice {
     }
 }
 
-/// Makes groups of some kinds, each with the turns that it tells.
+/// Makes groups of some kinds, each with the turns that it tells among those that one of the kinds must tell.
 fn pool(kinds: &[Kind], seed: u64, open: &[u32]) -> Vec<Group> {
     let mut source = Source::new(seed);
     let all = kinds.iter().flat_map(|&kind| [kind; POOL]);
@@ -91,7 +92,8 @@ fn pool(kinds: &[Kind], seed: u64, open: &[u32]) -> Vec<Group> {
         .map(|kind| source.next(kind, true))
         .filter(|cases| ends_soon(cases));
     let mut pool: Vec<Group> = made.map(Group::of).collect();
-    for &number in open {
+    let is_near = |&&number: &&u32| turn::told_by(number).any(|kind| kinds.contains(&kind));
+    for &number in open.iter().filter(is_near) {
         let mut answers = TurnAnswers::new(number);
         pool.iter_mut()
             .for_each(|group| group.try_turn(number, &mut answers));
@@ -99,9 +101,12 @@ fn pool(kinds: &[Kind], seed: u64, open: &[u32]) -> Vec<Group> {
     pool
 }
 
-/// Tells whether a group is no run or one that cannot last long.
+/// Tells whether a group is no run or play, or one that cannot last long.
 fn ends_soon(cases: &[Case]) -> bool {
-    !matches!(cases.last(), Some(Case::Run(_, given)) if given.limit > MOST_TICKS)
+    match cases.last() {
+        Some(Case::Run(_, given) | Case::Player(_, given)) => given.limit <= HIGHEST_LIMIT,
+        _ => true,
+    }
 }
 
 /// Finds the group that tells the most turns for its weight, and the place to cut it at.
@@ -112,10 +117,9 @@ fn best(pool: &[Group]) -> Option<(usize, usize)> {
     best.map(|(at, (_, place))| (at, place))
 }
 
-/// Looks for a group that tells a turn, among the kinds that must tell it, in small runs before others.
+/// Looks for a group that tells a turn, among the kinds that must tell it, in small runs and plays before others.
 fn search_kinds(number: u32, count: u64, seed: u64) -> Option<(Group, usize)> {
-    let names = turn::of(number).told_by;
-    let kinds = names.iter().filter_map(|name| Kind::named(name));
+    let kinds = turn::told_by(number);
     let groups = |kind, small| {
         let mut source = Source::new(seed);
         (0..count).map(move |_| Group::of(source.next(kind, small)))

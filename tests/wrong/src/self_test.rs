@@ -56,7 +56,7 @@ impl Trial {
         Ok(differences)
     }
 
-    /// Says after how many cases, lists or runs, changed a little, an answer differs.
+    /// Says after how many cases, lists, runs or plays, changed a little, an answer differs.
     fn found_after(&self, number: u32, kind: Kind, change: fn(&mut Case)) -> Option<u64> {
         let mut maker = Maker::new(self.seed);
         let (mut right, mut wrong) = (TurnAnswers::new(turn::NONE), TurnAnswers::new(number));
@@ -89,7 +89,7 @@ fn use_the_original_feature_word(case: &mut Case) {
         | Case::Decode(state, _)
         | Case::Retire(state)
         | Case::Run(state, _) => state.features = ORIGINAL_FEATURES,
-        Case::ListStart(begin) => begin.features = ORIGINAL_FEATURES,
+        Case::ListStart(begin) | Case::Player(begin, _) => begin.features = ORIGINAL_FEATURES,
         _ => {}
     }
 }

@@ -25,14 +25,14 @@ pub fn run(cases: &str, answers: &str, mut out: impl Write) -> Result<bool> {
 
 /// Gives the turns that no line tells.
 pub fn untold(lines: &[Asked]) -> Result<Vec<u32>> {
-    let told = |number: u32| asked::first_told(&mut TurnAnswers::new(number), lines);
-    if let Some(place) = told(turn::NONE) {
+    let right = &mut TurnAnswers::new(turn::NONE);
+    if let Some(place) = asked::first_told(right, lines) {
         let numbers = &lines[place].right;
         return Err(Error::other(format!(
             "an answer that is not the case's: {numbers:x?}"
         )));
     }
     Ok(turn::wrong()
-        .filter(|&number| told(number).is_none())
+        .filter(|&number| !asked::tell(number, lines))
         .collect())
 }

@@ -1,5 +1,6 @@
 //! The wrong turns, and the one that is taken.
 
+use crate::case::Kind;
 use std::cell::Cell;
 
 /// A wrong turn, and the kinds of cases that must tell it or must give the same answers.
@@ -43,6 +44,14 @@ pub fn wrong() -> impl Iterator<Item = u32> {
 /// Gives the turn with a number.
 pub fn of(number: u32) -> &'static Turn {
     &TURNS[number as usize - 1]
+}
+
+/// Gives the kinds of cases that must tell the turn with a number.
+pub fn told_by(number: u32) -> impl Iterator<Item = Kind> + Clone {
+    of(number)
+        .told_by
+        .iter()
+        .filter_map(|name| Kind::named(name))
 }
 
 /// Gives the name of a turn.

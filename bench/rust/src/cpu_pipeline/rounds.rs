@@ -3,14 +3,22 @@
 use super::PipelineCpu;
 use std::io::{Error, Result};
 
+/// What all runs have used and retired.
+#[derive(Default)]
+pub struct Total {
+    pub ticks: u64,
+    pub instructions: u128,
+}
+
 impl PipelineCpu {
-    /// Runs from address 0 that many times and adds up the ticks.
-    pub fn rounds(&mut self, rounds: u32, limit: u32) -> Result<u64> {
-        let mut total = 0;
+    /// Runs from address 0 that many times and adds up the ticks and the retired instructions.
+    pub fn rounds(&mut self, rounds: u32, limit: u32) -> Result<Total> {
+        let mut total = Total::default();
         for _ in 0..rounds {
             self.reset(0);
             self.bus.rewind();
-            total += u64::from(self.run_once(limit));
+            total.ticks += u64::from(self.run_once(limit));
+            total.instructions += self.instructions_executed;
             if !self.bus.had_answers() {
                 return Err(Error::other("too few load answers for this limit"));
             }

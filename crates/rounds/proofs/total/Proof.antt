@@ -4,13 +4,13 @@ use Rattle.rounds.proofs.total.Statement.{statement}
 use Rattle.rounds.proofs.total.Tie as tie
 
 abbrev Inv-loop : tie.InvT-loop
-Inv-loop rounds limit sheet answers left₀ sum₀ left sum = Unit {0}
+Inv-loop rounds limit sheet answers left₀ ticks₀ instructions₀ left ticks instructions = Unit {0}
 
 abbrev μ-loop : tie.MeasureT-loop
-μ-loop rounds limit sheet answers left₀ sum₀ left sum = left
+μ-loop rounds limit sheet answers left₀ ticks₀ instructions₀ left ticks instructions = left
 
 pub total-spec : {M : Type 1} → statement M
 total-spec = tie.close (tie.spec Inv-loop μ-loop
     (λ c. search needs) (λ c κs. search needs) (λ c κs. search needs) (λ c κs. search needs) (λ c κs. search needs)
-    (λ c. search needs)
+    (λ c κs. search needs) (λ c. search needs)
     (λ c. search needs) (λ c. search needs) (λ c. search needs))

@@ -1,5 +1,7 @@
 //! The kinds of cases that can be asked for by name.
 
+use super::Case;
+
 /// What is generated and compared in one run.
 #[derive(Debug, Clone, Copy, PartialEq, Eq)]
 pub enum Kind {
@@ -19,10 +21,11 @@ pub enum Kind {
     Lists,
     Runs,
     Fuzz,
+    Player,
 }
 
 /// Every kind with its name.
-const NAMES: [(Kind, &str); 16] = [
+const NAMES: [(Kind, &str); 17] = [
     (Kind::Arithmetic, "arithmetic"),
     (Kind::Halfwords, "halfwords"),
     (Kind::Operands, "operands"),
@@ -39,13 +42,38 @@ const NAMES: [(Kind, &str); 16] = [
     (Kind::Lists, "lists"),
     (Kind::Runs, "runs"),
     (Kind::Fuzz, "fuzz"),
+    (Kind::Player, "player"),
 ];
 
 impl Kind {
-    /// Gives every kind without runs of a sheet.
+    /// Gives every kind without runs and plays of a sheet.
     pub fn without_runs() -> impl Iterator<Item = Kind> + Clone {
         let kinds = NAMES.iter().map(|&(kind, _)| kind);
-        kinds.filter(|kind| !matches!(kind, Kind::Runs | Kind::Fuzz))
+        kinds.filter(|kind| !matches!(kind, Kind::Runs | Kind::Fuzz | Kind::Player))
+    }
+
+    /// Tells whether a case is one of the kind, or a line that cases of the kind need before them.
+    pub fn has(self, case: &Case) -> bool {
+        let kinds: &[Kind] = match case {
+            Case::Arithmetic(_) => &[Kind::Arithmetic],
+            Case::Halfword(_) => &[Kind::Halfwords],
+            Case::Operands(_) | Case::ShortOperands(_) => &[Kind::Operands],
+            Case::Tick(..) => &[Kind::Tick],
+            Case::Ask(_) => &[Kind::Ask],
+            Case::Forwarded(..) => &[Kind::Forwarded],
+            Case::Execute(..) => &[Kind::Execute],
+            Case::Decode(..) => &[Kind::Decode],
+            Case::Sources(_) => &[Kind::Sources],
+            Case::MulDiv(_) => &[Kind::MulDiv],
+            Case::Hazard(..) => &[Kind::Hazard],
+            Case::Retire(_) => &[Kind::Retire],
+            Case::Start(_) => &[Kind::Start],
+            Case::ListStart(_) | Case::ListTick(..) | Case::ListShow => &[Kind::Lists],
+            Case::PutSheet(..) | Case::PutAnswers(..) => &[Kind::Runs, Kind::Fuzz, Kind::Player],
+            Case::Run(..) => &[Kind::Runs, Kind::Fuzz],
+            Case::Player(..) => &[Kind::Player],
+        };
+        kinds.contains(&self)
     }
 
     /// Finds a kind by its name.

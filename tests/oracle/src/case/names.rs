@@ -2,6 +2,7 @@
 
 use super::Case;
 use crate::cpu_pipeline::harness::Numbers;
+use crate::player::Played;
 use crate::row::Row;
 use crate::rows::{ExMem, IdEx, Redirect, Seen, State};
 use crate::runner::Run;
@@ -35,6 +36,7 @@ pub fn result_names(case: &Case) -> Vec<String> {
         Case::MulDiv(_) => names.push("latency".to_string()),
         Case::Hazard(..) => names.push("hazard".to_string()),
         Case::Run(..) => Run::names(&mut names),
+        Case::Player(..) => Played::names(&mut names),
         Case::ListStart(_) | Case::PutSheet(..) | Case::PutAnswers(..) => {}
     }
     names

@@ -30,6 +30,7 @@ impl Case {
             Case::PutSheet(..) => 0x12,
             Case::PutAnswers(..) => 0x13,
             Case::Run(..) => 0x14,
+            Case::Player(..) => 0x15,
         }
     }
 
@@ -56,6 +57,7 @@ impl Case {
             Case::ListShow => {}
             Case::PutSheet(at, block) | Case::PutAnswers(at, block) => put_both(at, block, out),
             Case::Run(state, given) => put_both(state, given, out),
+            Case::Player(begin, given) => put_both(begin, given, out),
         }
     }
 
@@ -90,6 +92,7 @@ impl Case {
             0x12 => read_block(rest, SHEET_BYTES - BLOCK_BYTES, Case::PutSheet)?,
             0x13 => read_block(rest, ANSWERS - BLOCK_WORDS, Case::PutAnswers)?,
             0x14 => Case::Run(Row::take(rest)?, read_given(rest)?),
+            0x15 => Case::Player(Row::take(rest)?, read_given(rest)?),
             _ => return None,
         })
     }

@@ -70,6 +70,7 @@ impl Feed {
             case.put(&mut self.numbers);
             line::put(&self.numbers, lines);
             self.numbers.clear();
+            self.answers.check(case);
             if self.answers.answer(case, &mut self.numbers) {
                 let mut line = Vec::new();
                 line::put(&self.numbers, &mut line);

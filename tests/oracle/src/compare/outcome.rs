@@ -11,13 +11,15 @@ pub enum Outcome {
     Halted,
     Spent,
     Loads,
+    Stopped,
     Refused(u32),
 }
 
 impl Outcome {
     /// Reads it off an expected line, unless such a line does not tell.
     pub fn of(expected: &Expected) -> Option<Self> {
-        if !expected.case.has_a_code() && !matches!(expected.case, Case::Run(..)) {
+        let has_an_end = matches!(expected.case, Case::Run(..) | Case::Player(..));
+        if !expected.case.has_a_code() && !has_an_end {
             return None;
         }
         let line = std::str::from_utf8(&expected.line).ok()?;
@@ -25,13 +27,14 @@ impl Outcome {
             .split_whitespace()
             .map_while(|word| u32::from_str_radix(word, 16).ok());
         let first = numbers.next()?;
-        Some(match (&expected.case, first) {
-            (Case::Run(..), 0) => Outcome::Halted,
-            (Case::Run(..), 1) => Outcome::Spent,
-            (Case::Run(..), 2) => Outcome::Loads,
-            (Case::Run(..), _) => Outcome::Refused(numbers.next()?),
-            (_, 0) => Outcome::Accepted,
-            (_, code) => Outcome::Refused(code),
+        Some(match (has_an_end, first) {
+            (true, 0) => Outcome::Halted,
+            (true, 1) => Outcome::Spent,
+            (true, 2) => Outcome::Loads,
+            (true, 4) => Outcome::Stopped,
+            (true, _) => Outcome::Refused(numbers.next()?),
+            (false, 0) => Outcome::Accepted,
+            (false, code) => Outcome::Refused(code),
         })
     }
 }
@@ -43,6 +46,7 @@ impl Display for Outcome {
             Outcome::Halted => write!(out, "halted"),
             Outcome::Spent => write!(out, "spent"),
             Outcome::Loads => write!(out, "loads"),
+            Outcome::Stopped => write!(out, "stopped"),
             Outcome::Refused(number) => write!(out, "refused {number}"),
         }
     }

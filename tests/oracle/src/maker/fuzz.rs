@@ -41,20 +41,28 @@ impl Background {
 impl Maker {
     /// Appends the next byte string as a run, and the lines that it needs.
     pub fn fuzz(&mut self, out: &mut Vec<Case>) {
-        let sheet_length = self.string_length();
-        if !sheet::length_breaks(sheet_length as usize) {
-            self.change_the_background();
-            self.wanted.sheet.copy_from_slice(&self.background.bytes);
-            self.spoil(sheet_length / RECORD_BYTES as u32);
-        }
-        let state = self.string_state();
+        let sheet_length = self.byte_string();
+        let begin = self.string_begin();
+        let state = self.original.start(&begin);
         let mut given = Given {
             limit: TRIED,
             sheet_length,
             answer_count: self.random.pick(&[0, 0, 0, 1, 20, 64]),
         };
         given.limit = self.string_limit(&state, given);
-        self.send(state, given, out);
+        self.send(&given, out);
+        out.push(Case::Run(state, given));
+    }
+
+    /// Puts the next byte string into the sheet that is wanted, unless it is refused anyway, and gives its length.
+    pub fn byte_string(&mut self) -> u32 {
+        let length = self.string_length();
+        if !sheet::length_breaks(length as usize) {
+            self.change_the_background();
+            self.wanted.sheet.copy_from_slice(&self.background.bytes);
+            self.spoil(length / RECORD_BYTES as u32);
+        }
+        length
     }
 
     /// Chooses a length: any, any whole number of records, or one at the limits.
@@ -141,9 +149,9 @@ impl Maker {
         }
     }
 
-    /// Makes the state to begin at: most often that of the program tickrun.
-    fn string_state(&mut self) -> State {
-        let begin = if self.random.chance(70) {
+    /// Makes the start: most often that of the program tickrun.
+    pub fn string_begin(&mut self) -> Begin {
+        if self.random.chance(70) {
             tickrun::BEGIN
         } else {
             let record = self.random.pick(&[0, FRONT, MOST]);
@@ -152,8 +160,7 @@ impl Maker {
                 pc,
                 ..self.list_begin()
             }
-        };
-        self.original.start(&begin)
+        }
     }
 
     /// Chooses the tick limit: the highest where the run ends soon.

@@ -2,7 +2,7 @@
 
 use super::Maker;
 use crate::case::Case;
-use crate::rows::{Given, NORMAL, SHORT, State};
+use crate::rows::{Begin, Given, NORMAL, SHORT, State};
 use crate::runner::{End, HIGHEST_LIMIT};
 use crate::sheet::{LONGEST, PAIR, RECORD_ADDRESSES, RECORD_BYTES};
 
@@ -16,7 +16,10 @@ const LENGTHS: [u32; 16] = [
     0, 1, 4, 5, 6, 7, 10, 20_474, 20_475, 20_476, 20_479, 20_480, 20_480, 20_481, 20_485, 20_736,
 ];
 /// Limits that are refused.
-const REFUSED_LIMITS: [u32; 4] = [1_000_001, 1_000_001, 0x8000_0000, 0xffff_ffff];
+pub const REFUSED_LIMITS: [u32; 4] = [1_000_001, 1_000_001, 0x8000_0000, 0xffff_ffff];
+
+/// Places of damaged records and what these were.
+type Restored = Vec<(usize, [u8; RECORD_BYTES])>;
 
 impl Maker {
     /// Appends the next run and the lines that it needs; a small one keeps to a line of each buffer.
@@ -34,14 +37,13 @@ impl Maker {
             answer_count,
         };
         given.limit = self.tick_limit(&state, given);
-        self.send(state, given, out);
-        for (place, bytes) in restored {
-            *self.wanted_record(place) = bytes;
-        }
+        self.send(&given, out);
+        out.push(Case::Run(state, given));
+        self.restore(restored);
     }
 
     /// Makes the records of another sheet and other load answers.
-    fn next_sheet(&mut self, small: bool) {
+    pub fn next_sheet(&mut self, small: bool) {
         let count = match self.random.below(400) {
             0 if !small => MOST,
             1..8 if !small => self.random.below(400),
@@ -72,7 +74,7 @@ impl Maker {
     }
 
     /// Chooses the length of the sheet, most often that of its records.
-    fn sheet_length(&mut self, small: bool) -> u32 {
+    pub fn sheet_length(&mut self, small: bool) -> u32 {
         let bytes = RECORD_BYTES as u32;
         match self.random.below(100) {
             0..4 => self.random.pick(&LENGTHS),
@@ -83,7 +85,7 @@ impl Maker {
     }
 
     /// Chooses how many load answers there are, often too few.
-    fn answer_count(&mut self, small: bool) -> u32 {
+    pub fn answer_count(&mut self, small: bool) -> u32 {
         match self.random.below(10) {
             0 | 1 => 0,
             2..5 => 1 + self.random.below(6),
@@ -94,11 +96,7 @@ impl Maker {
     }
 
     /// Damages one or two records now and then, of small runs more often, and gives what they were.
-    fn damage_the_sheet(
-        &mut self,
-        small: bool,
-        sheet_length: u32,
-    ) -> Vec<(usize, [u8; RECORD_BYTES])> {
+    pub fn damage_the_sheet(&mut self, small: bool, sheet_length: u32) -> Restored {
         let count = sheet_length.min(LONGEST as u32) / RECORD_BYTES as u32;
         let times = match self.random.below(if small { 50 } else { 100 }) {
             _ if count == 0 => 0,
@@ -117,15 +115,16 @@ impl Maker {
         restored
     }
 
+    /// Writes records as they were.
+    pub fn restore(&mut self, restored: Restored) {
+        for (place, bytes) in restored {
+            *self.wanted_record(place) = bytes;
+        }
+    }
+
     /// Makes the state to begin at: a fresh one most often, for small runs less often.
     fn run_state(&mut self, small: bool) -> State {
-        let mut begin = self.list_begin();
-        begin.user = self.random.chance(10);
-        (begin.pc, begin.mode) = self.start_place();
-        if self.random.chance(40) {
-            let register = self.register() as usize;
-            begin.reg[register] = self.start_place().0;
-        }
+        let begin = self.run_begin();
         let mut state = self.original.start(&begin);
         match self.random.below(if small { 50 } else { 100 }) {
             0..3 => {
@@ -139,6 +138,18 @@ impl Maker {
             _ => {}
         }
         state
+    }
+
+    /// Makes a start at the sheet, often with an address of it in a register.
+    pub fn run_begin(&mut self) -> Begin {
+        let mut begin = self.list_begin();
+        begin.user = self.random.chance(10);
+        (begin.pc, begin.mode) = self.start_place();
+        if self.random.chance(40) {
+            let register = self.register() as usize;
+            begin.reg[register] = self.start_place().0;
+        }
+        begin
     }
 
     /// Chooses where to begin: most often at a record in its mode.

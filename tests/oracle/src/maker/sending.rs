@@ -3,7 +3,8 @@
 use super::Maker;
 use crate::buffers::{BLOCK_BYTES, BLOCK_WORDS};
 use crate::case::Case;
-use crate::rows::{Given, State};
+use crate::player::{self, Played};
+use crate::rows::{Begin, Given, State};
 use crate::runner::{self, Run};
 use crate::sheet::{RECORD_BYTES, Record, write};
 
@@ -22,8 +23,8 @@ impl Maker {
         &mut records[place]
     }
 
-    /// Appends the lines that are missing for a run, and the run.
-    pub fn send(&mut self, state: State, given: Given, out: &mut Vec<Case>) {
+    /// Appends the lines that are missing for a run or a play.
+    pub fn send(&mut self, given: &Given, out: &mut Vec<Case>) {
         for at in (0..given.sheet_length as usize).step_by(BLOCK_BYTES) {
             let block = at..at + BLOCK_BYTES;
             if self.wanted.sheet[block.clone()] != self.held.sheet[block] {
@@ -40,12 +41,16 @@ impl Maker {
                 out.push(Case::PutAnswers(at as u32, words));
             }
         }
-        out.push(Case::Run(state, given));
     }
 
     /// Runs what is wanted.
     pub fn try_out(&mut self, state: &State, given: &Given) -> Run {
         let task = self.wanted.task(given);
         runner::run(&mut self.original, state, &task)
+    }
+
+    /// Plays what is wanted.
+    pub fn try_playing(&self, begin: &Begin, given: &Given) -> Played {
+        player::play(begin, &self.wanted.task(given))
     }
 }

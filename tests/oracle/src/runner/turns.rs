@@ -32,7 +32,7 @@ fn refused(state: &State, task: &Task) -> u32 {
 }
 
 /// Gives the refusal of the first record that has one, or none.
-fn first_bad_record(sheet: &[u8]) -> u32 {
+pub fn first_bad_record(sheet: &[u8]) -> u32 {
     let (records, _) = sheet.as_chunks();
     let mut codes = records.iter().map(sheet::refuse);
     codes.find(|&code| code != NONE).unwrap_or(NONE)
@@ -42,19 +42,24 @@ fn first_bad_record(sheet: &[u8]) -> u32 {
 fn take_turns(original: &mut Original, task: &Task, run: &mut Run) -> End {
     let mut left = task.answers;
     loop {
-        if let Some(end) = ended(&run.state, run.ticks, task.limit) {
+        if let Some(end) = turn(original, task, run, &mut left) {
             return end;
         }
-        let (next, seen) = fed_tick(original, &run.state, task.sheet, left.first());
-        if seen.request == LOAD {
-            let Some((_, rest)) = left.split_first() else {
-                return End::Loads;
-            };
-            left = rest;
-        }
-        run.state = next;
-        run.count(&seen);
     }
+}
+
+/// Ends a run or does one tick, which may take the first of the load answers left.
+pub fn turn(original: &mut Original, task: &Task, run: &mut Run, left: &mut &[u32]) -> Option<End> {
+    if let Some(end) = ended(&run.state, run.ticks, task.limit) {
+        return Some(end);
+    }
+    let (next, seen) = fed_tick(original, &run.state, task.sheet, left.first());
+    if seen.request == LOAD && left.split_off_first().is_none() {
+        return Some(End::Loads);
+    }
+    run.state = next;
+    run.count(&seen);
+    None
 }
 
 /// Ends a run that is halted, then one whose limit is used up, then one that stands where it is refused.

@@ -5,10 +5,10 @@ use Rattle.compare.proofs.write_state.set_registers.Statement.{statemen
 use Rattle.compare.proofs.write_state.set_registers.Tie as tie
 
 abbrev Inv-loop : tie.InvT-loop
-Inv-loop n₀ reg i₀ n i = Unit {0}
+Inv-loop n₀ at reg i₀ n i = Unit {0}
 
 abbrev μ-loop : tie.MeasureT-loop
-μ-loop n₀ reg i₀ n i = 32 - i
+μ-loop n₀ at reg i₀ n i = 32 - i
 
 pub set-registers-spec : {M : Type 1} → statement M
 set-registers-spec = tie.close (tie.spec Inv-loop μ-loop

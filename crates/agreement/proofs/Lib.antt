@@ -1,0 +1,4 @@
+pub mod Standing
+pub mod Parts
+pub mod Agreement
+pub mod Claims

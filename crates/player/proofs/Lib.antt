@@ -1,0 +1,5 @@
+pub mod Table
+pub mod Loop
+pub mod Plays
+pub mod Rows
+pub mod Claims
