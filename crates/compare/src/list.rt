@@ -41,7 +41,7 @@ fn known(
         0x11 => show(held, n),
         0x12 => put_sheet(sheet, n),
         0x13 => put_answers(answers, n),
-        0x14 => run(n, sheet, answers, 122),
+        0x14 | 0x16 => run(n, sheet, answers, 122),
         0x15 => run(n, sheet, answers, 38),
         _ => answer(n),
     }

@@ -52,7 +52,11 @@ fn put_run(n: &mut [u32; 192], ran: Ran, requests: Requests) -> Reply {
     put_counts(n, end, ran.ticks, requests)
 }
 
+// The panel's run, or the runner's.
 fn ran_of(n: &[u32; 192], sheet: &[u8], answers: &[u32]) -> Ran {
+    if n[0] == 0x16 {
+        return panel::preview(state(n), sheet, answers, n[121]);
+    }
     runner::run(state(n), sheet, answers, n[121])
 }
 
@@ -62,12 +66,12 @@ fn run_of(n: &mut [u32; 192], sheet: &[u8], answers: &[u32]) -> Reply {
     put_run(n, ran, requests)
 }
 
-// The runner's run, or the player's play.
+// The player's play, or a run.
 fn either(n: &mut [u32; 192], sheet: &[u8], answers: &[u32]) -> Reply {
-    if n[0] == 0x14 {
-        return run_of(n, sheet, answers);
+    if n[0] == 0x15 {
+        return play_of(n, sheet, answers);
     }
-    play_of(n, sheet, answers)
+    run_of(n, sheet, answers)
 }
 
 // One of them with the first so many of the answers that are held.

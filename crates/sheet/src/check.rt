@@ -51,7 +51,7 @@ fn first_code(sheet: &[u8], count: u32) -> u32
 }
 
 // 6: a length that is no multiple of 5, or above 20,480 bytes.
-fn bad_length(n: usize) -> bool
+pub fn bad_length(n: usize) -> bool
     ensures { λ r. ⌜ r ≡ badLength n ⌝ }
 {
     (n % 5 != 0) | (20480 < n)

@@ -1,6 +1,7 @@
 // The step sheet: records of five bytes, their check and what they offer a fetch; and the order of a run's turns.
 //
 // Wrong programs that the promises rule out, for each function two:
+// - bad_length: 20,480 bytes refused; 20,485 accepted.
 // - check: 1 for a record with a register above 31 and an unused byte not zero; 20,485 bytes accepted.
 // - first_refused: a record with an unused byte not zero passed over; the last refused record.
 // - check_limited: 7 before 6; 7 for a limit of 1,000,000.

@@ -5,6 +5,7 @@ use crate::case::Case;
 use crate::cpu_pipeline::harness::arithmetic::{self, Arithmetic};
 use crate::cpu_pipeline::harness::original::Original;
 use crate::cpu_pipeline::harness::{operands, short_numbers_of};
+use crate::panel;
 use crate::player;
 use crate::refusals::{self, NONE, OUT_OF_BOUNDS};
 use crate::row::Row;
@@ -63,6 +64,7 @@ impl Answers {
             Case::PutAnswers(at, block) => self.buffers.put_answers(*at, block),
             Case::Run(state, given) => self.run(state, given, out),
             Case::Player(begin, given) => self.player(begin, given, out),
+            Case::Panel(state, given) => self.panel(state, given, out),
         }
         case.has_a_result()
     }
@@ -110,6 +112,12 @@ impl Answers {
     /// Answers a play of the sheet held.
     fn player(&mut self, begin: &Begin, given: &Given, out: &mut Vec<u32>) {
         player::play(begin, &self.buffers.task(given)).put(out);
+    }
+
+    /// Answers a preview of the sheet held.
+    fn panel(&mut self, state: &State, given: &Given, out: &mut Vec<u32>) {
+        let task = self.buffers.task(given);
+        panel::preview(&mut self.original, state, &task).put(out);
     }
 
     /// Panics if a case is a play that differs from the original's run of the same sheet.

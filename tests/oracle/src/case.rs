@@ -37,6 +37,7 @@ pub enum Case {
     PutAnswers(u32, Block),
     Run(State, Given),
     Player(Begin, Given),
+    Panel(State, Given),
 }
 
 impl Case {
@@ -50,10 +51,16 @@ impl Case {
                 | Case::ShortOperands(_)
                 | Case::Start(_)
                 | Case::ListShow
-                | Case::Run(..)
-                | Case::Player(..)
         );
-        self.has_a_result() && !without
+        self.has_a_result() && !without && self.given().is_none()
+    }
+
+    /// Gives what a run, a play or a preview is given besides where it begins and the buffers.
+    pub fn given(&self) -> Option<&Given> {
+        match self {
+            Case::Run(_, given) | Case::Player(_, given) | Case::Panel(_, given) => Some(given),
+            _ => None,
+        }
     }
 
     /// Tells whether the case has a result line.

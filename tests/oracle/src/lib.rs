@@ -12,6 +12,7 @@ mod generator;
 mod line;
 pub mod listing;
 mod maker;
+mod panel;
 mod player;
 mod refusals;
 mod row;

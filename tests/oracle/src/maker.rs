@@ -12,6 +12,7 @@ mod list;
 mod meeting;
 mod offer;
 mod operands;
+mod panel;
 mod part;
 mod plain;
 mod player;
@@ -72,7 +73,7 @@ impl Maker {
         }
     }
 
-    /// Appends the next case of a kind, or all the lines of the next list, run or play.
+    /// Appends the next case of a kind, or all the lines of the next list, run, play or preview.
     pub fn next(&mut self, kind: Kind, out: &mut Vec<Case>) {
         self.choose_few();
         let case = match kind {
@@ -93,23 +94,21 @@ impl Maker {
             Kind::Runs => return self.run(false, out),
             Kind::Fuzz => return self.fuzz(out),
             Kind::Player => return self.player(false, out),
+            Kind::Panel => return self.panel(false, out),
         };
         out.push(case);
     }
 
-    /// Appends the same, but a run or a play that keeps to a line of each buffer.
+    /// Appends the same, but a run, play or preview whose records and answers keep to a line of each buffer.
     pub fn next_small(&mut self, kind: Kind, out: &mut Vec<Case>) {
-        match kind {
-            Kind::Runs => {
-                self.choose_few();
-                self.run(true, out);
-            }
-            Kind::Player => {
-                self.choose_few();
-                self.player(true, out);
-            }
-            _ => self.next(kind, out),
-        }
+        let small: fn(&mut Self, bool, &mut Vec<Case>) = match kind {
+            Kind::Runs => Self::run,
+            Kind::Player => Self::player,
+            Kind::Panel => Self::panel,
+            _ => return self.next(kind, out),
+        };
+        self.choose_few();
+        small(self, true, out);
     }
 
     /// Chooses the registers, words and addresses of the next case.

@@ -8,9 +8,9 @@ use crate::turn;
 use crate::turn_answers::TurnAnswers;
 use std::io::{Result, Write};
 
-/// Groups of each kind among which the best are chosen, and the highest limit of a run or play among them.
+/// Groups of each kind among which the best are chosen, and the highest limit of a run, play or preview among them.
 const POOL: usize = 400;
-const HIGHEST_LIMIT: u32 = 5_000;
+const HIGHEST_LIMIT: u32 = 10_001;
 
 /// The turns that no line tells yet, and the groups of lines chosen for the others.
 struct Choice {
@@ -31,6 +31,7 @@ pub fn run(cases: &str, count: u64, seed: u64, mut out: impl Write) -> Result<bo
     choice.take_best(&[Kind::Lists], seed);
     choice.take_best(&[Kind::Runs], seed);
     choice.take_best(&[Kind::Player], seed);
+    choice.take_best(&[Kind::Panel], seed);
     choice.search_each(count, seed);
     let text = choice.text();
     out.write_all(&text)?;
@@ -101,12 +102,10 @@ fn pool(kinds: &[Kind], seed: u64, open: &[u32]) -> Vec<Group> {
     pool
 }
 
-/// Tells whether a group is no run or play, or one that cannot last long.
+/// Tells whether a group is no run, play or preview, or one that cannot last long.
 fn ends_soon(cases: &[Case]) -> bool {
-    match cases.last() {
-        Some(Case::Run(_, given) | Case::Player(_, given)) => given.limit <= HIGHEST_LIMIT,
-        _ => true,
-    }
+    let given = cases.last().and_then(Case::given);
+    given.is_none_or(|given| given.limit <= HIGHEST_LIMIT)
 }
 
 /// Finds the group that tells the most turns for its weight, and the place to cut it at.
@@ -117,7 +116,7 @@ fn best(pool: &[Group]) -> Option<(usize, usize)> {
     best.map(|(at, (_, place))| (at, place))
 }
 
-/// Looks for a group that tells a turn, among the kinds that must tell it, in small runs and plays before others.
+/// Looks for a group that tells a turn, among the kinds that must tell it, in small ones before others.
 fn search_kinds(number: u32, count: u64, seed: u64) -> Option<(Group, usize)> {
     let kinds = turn::told_by(number);
     let groups = |kind, small| {

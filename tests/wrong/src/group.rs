@@ -1,4 +1,4 @@
-//! Case lines that need no others: one case, a list from its start on, or a run or play with all that it is given.
+//! Case lines that need no others: one case, a list from its start on, or a run, play or preview with what it is given.
 
 use crate::asked::{self, Asked};
 use crate::buffers::{BLOCK_BYTES, BLOCK_WORDS, Buffers};
@@ -91,7 +91,7 @@ impl Source {
         }
     }
 
-    /// Gives the cases of the next group of a kind; runs and plays are small ones if asked for.
+    /// Gives the cases of the next group of a kind; runs, plays and previews are small ones if asked for.
     pub fn next(&mut self, kind: Kind, small: bool) -> Vec<Case> {
         let mut cases = Vec::new();
         if small {
@@ -99,9 +99,11 @@ impl Source {
         } else {
             self.maker.next(kind, &mut cases);
         }
-        if let Some(&last @ (Case::Run(_, given) | Case::Player(_, given))) = cases.last() {
+        if let Some(&last) = cases.last()
+            && let Some(given) = last.given()
+        {
             cases.iter().for_each(|case| self.hold(case));
-            cases = self.puts(&given);
+            cases = self.puts(given);
             cases.push(last);
         }
         cases
@@ -116,7 +118,7 @@ impl Source {
         }
     }
 
-    /// Gives the lines that put all that a run or play is given.
+    /// Gives the lines that put all that a run, play or preview is given.
     fn puts(&self, given: &Given) -> Vec<Case> {
         let sheet = (0..given.sheet_length as usize).step_by(BLOCK_BYTES);
         let answers = (0..given.answer_count as usize).step_by(BLOCK_WORDS);

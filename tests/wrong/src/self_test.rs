@@ -88,7 +88,8 @@ fn use_the_original_feature_word(case: &mut Case) {
         | Case::Execute(state, _)
         | Case::Decode(state, _)
         | Case::Retire(state)
-        | Case::Run(state, _) => state.features = ORIGINAL_FEATURES,
+        | Case::Run(state, _)
+        | Case::Panel(state, _) => state.features = ORIGINAL_FEATURES,
         Case::ListStart(begin) | Case::Player(begin, _) => begin.features = ORIGINAL_FEATURES,
         _ => {}
     }

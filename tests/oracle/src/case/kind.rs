@@ -22,10 +22,11 @@ pub enum Kind {
     Runs,
     Fuzz,
     Player,
+    Panel,
 }
 
 /// Every kind with its name.
-const NAMES: [(Kind, &str); 17] = [
+const NAMES: [(Kind, &str); 18] = [
     (Kind::Arithmetic, "arithmetic"),
     (Kind::Halfwords, "halfwords"),
     (Kind::Operands, "operands"),
@@ -43,13 +44,17 @@ const NAMES: [(Kind, &str); 17] = [
     (Kind::Runs, "runs"),
     (Kind::Fuzz, "fuzz"),
     (Kind::Player, "player"),
+    (Kind::Panel, "panel"),
 ];
 
+/// The kinds that need a sheet.
+const OVER_A_SHEET: [Kind; 4] = [Kind::Runs, Kind::Fuzz, Kind::Player, Kind::Panel];
+
 impl Kind {
-    /// Gives every kind without runs and plays of a sheet.
+    /// Gives every kind without runs, plays and previews of a sheet.
     pub fn without_runs() -> impl Iterator<Item = Kind> + Clone {
         let kinds = NAMES.iter().map(|&(kind, _)| kind);
-        kinds.filter(|kind| !matches!(kind, Kind::Runs | Kind::Fuzz | Kind::Player))
+        kinds.filter(|kind| !OVER_A_SHEET.contains(kind))
     }
 
     /// Tells whether a case is one of the kind, or a line that cases of the kind need before them.
@@ -69,9 +74,10 @@ impl Kind {
             Case::Retire(_) => &[Kind::Retire],
             Case::Start(_) => &[Kind::Start],
             Case::ListStart(_) | Case::ListTick(..) | Case::ListShow => &[Kind::Lists],
-            Case::PutSheet(..) | Case::PutAnswers(..) => &[Kind::Runs, Kind::Fuzz, Kind::Player],
+            Case::PutSheet(..) | Case::PutAnswers(..) => &OVER_A_SHEET,
             Case::Run(..) => &[Kind::Runs, Kind::Fuzz],
             Case::Player(..) => &[Kind::Player],
+            Case::Panel(..) => &[Kind::Panel],
         };
         kinds.contains(&self)
     }

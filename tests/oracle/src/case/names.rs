@@ -35,7 +35,7 @@ pub fn result_names(case: &Case) -> Vec<String> {
         Case::Sources(_) => names.extend(["src0", "src1"].map(String::from)),
         Case::MulDiv(_) => names.push("latency".to_string()),
         Case::Hazard(..) => names.push("hazard".to_string()),
-        Case::Run(..) => Run::names(&mut names),
+        Case::Run(..) | Case::Panel(..) => Run::names(&mut names),
         Case::Player(..) => Played::names(&mut names),
         Case::ListStart(_) | Case::PutSheet(..) | Case::PutAnswers(..) => {}
     }

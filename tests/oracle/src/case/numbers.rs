@@ -31,6 +31,7 @@ impl Case {
             Case::PutAnswers(..) => 0x13,
             Case::Run(..) => 0x14,
             Case::Player(..) => 0x15,
+            Case::Panel(..) => 0x16,
         }
     }
 
@@ -56,7 +57,7 @@ impl Case {
             Case::ListTick(offer, answer) => put_both(offer, answer, out),
             Case::ListShow => {}
             Case::PutSheet(at, block) | Case::PutAnswers(at, block) => put_both(at, block, out),
-            Case::Run(state, given) => put_both(state, given, out),
+            Case::Run(state, given) | Case::Panel(state, given) => put_both(state, given, out),
             Case::Player(begin, given) => put_both(begin, given, out),
         }
     }
@@ -93,6 +94,7 @@ impl Case {
             0x13 => read_block(rest, ANSWERS - BLOCK_WORDS, Case::PutAnswers)?,
             0x14 => Case::Run(Row::take(rest)?, read_given(rest)?),
             0x15 => Case::Player(Row::take(rest)?, read_given(rest)?),
+            0x16 => Case::Panel(Row::take(rest)?, read_given(rest)?),
             _ => return None,
         })
     }

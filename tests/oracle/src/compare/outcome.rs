@@ -1,7 +1,6 @@
 //! What an expected answer says came of its case.
 
 use super::feed::Expected;
-use crate::case::Case;
 use std::fmt::{Display, Formatter, Result};
 
 /// What came of a case.
@@ -18,7 +17,7 @@ pub enum Outcome {
 impl Outcome {
     /// Reads it off an expected line, unless such a line does not tell.
     pub fn of(expected: &Expected) -> Option<Self> {
-        let has_an_end = matches!(expected.case, Case::Run(..) | Case::Player(..));
+        let has_an_end = expected.case.given().is_some();
         if !expected.case.has_a_code() && !has_an_end {
             return None;
         }

@@ -24,10 +24,27 @@ type Restored = Vec<(usize, [u8; RECORD_BYTES])>;
 impl Maker {
     /// Appends the next run and the lines that it needs; a small one keeps to a line of each buffer.
     pub fn run(&mut self, small: bool, out: &mut Vec<Case>) {
+        self.change_the_sheet(small);
+        let sheet_length = self.sheet_length(small);
+        let (state, given) = self.run_over(small, sheet_length, Self::tick_limit, out);
+        out.push(Case::Run(state, given));
+    }
+
+    /// Makes another sheet most often.
+    pub fn change_the_sheet(&mut self, small: bool) {
         if self.records_in_use == 0 || self.random.chance(75) {
             self.next_sheet(small);
         }
-        let sheet_length = self.sheet_length(small);
+    }
+
+    /// Appends the lines that a run over so many bytes of the sheet needs, and gives what it is given.
+    pub fn run_over(
+        &mut self,
+        small: bool,
+        sheet_length: u32,
+        limit: fn(&mut Self, &State, Given) -> u32,
+        out: &mut Vec<Case>,
+    ) -> (State, Given) {
         let answer_count = self.answer_count(small);
         let restored = self.damage_the_sheet(small, sheet_length);
         let state = self.run_state(small);
@@ -36,10 +53,10 @@ impl Maker {
             sheet_length,
             answer_count,
         };
-        given.limit = self.tick_limit(&state, given);
+        given.limit = limit(self, &state, given);
         self.send(&given, out);
-        out.push(Case::Run(state, given));
         self.restore(restored);
+        (state, given)
     }
 
     /// Makes the records of another sheet and other load answers.
@@ -155,10 +172,10 @@ impl Maker {
     /// Chooses where to begin: most often at a record in its mode.
     fn start_place(&mut self) -> (u32, u32) {
         let count = self.records_in_use.max(1);
-        let record = if self.random.chance(80) {
-            0
-        } else {
-            self.random.below(count)
+        let record = match self.random.below(20) {
+            0..16 => 0,
+            16..19 => self.random.below(count),
+            _ => count - 1,
         };
         let address = RECORD_ADDRESSES * record;
         let mode = match self.wanted_record(record as usize)[0] {
@@ -192,7 +209,7 @@ impl Maker {
     }
 
     /// Chooses the tick limit.
-    fn tick_limit(&mut self, state: &State, given: Given) -> u32 {
+    pub fn tick_limit(&mut self, state: &State, given: Given) -> u32 {
         match self.random.below(100) {
             0..8 => self.random.pick(&[0, 1, 4, 5]),
             8..24 => self.random.below(60),

@@ -1,0 +1,5 @@
+pub mod Names
+pub mod Panel
+pub mod Rows
+pub mod Claims
+pub mod Inner
