@@ -167,17 +167,17 @@ unfolding operandsOf effectOf kind
 not-odd u (DecNormal i) p m x y = not-oddN u i p (fall p Normal) m x y
 not-odd u (DecShort i) p m x y = not-oddS i p (fall p Short) m x y
 
--- what every instruction's tests say, one by one
-record Even (u : Bool) (i : Decoded) (p : ℕ) (m : Mode) (x y : ℕ) : Type 0 where
-  load : oddLoad (isMul i) (isDiv i) (operandsOf i) (effectOf u i p x y) (predict i p m) ≡ false
-  store : oddStore (operandsOf i) (effectOf u i p x y) ≡ false
-  wait : oddWait (isMul i) (isDiv i) (operandsOf i) (effectOf u i p x y) (predict i p m) ≡ false
-  latency : oddLatency (isMul i) (isDiv i) (operandsOf i) ≡ false
-  swap : oddSwap ((effectOf u i p x y) .«branch_new_mode») (predict i p m) ((effectOf u i p x y) .redirect) ≡ false
-  mode : oddMode (kind i) ((effectOf u i p x y) .«branch_new_mode») ((effectOf u i p x y) .redirect) ≡ false
-  bounds : oddBounds (operandsOf i) (effectOf u i p x y) ≡ false
+-- what every instruction's tests say of its effect e, one by one
+pub record Even (i : Decoded) (p : ℕ) (m : Mode) (e : Effect) : Type 0 where
+  pub load : oddLoad (isMul i) (isDiv i) (operandsOf i) e (predict i p m) ≡ false
+  pub store : oddStore (operandsOf i) e ≡ false
+  pub wait : oddWait (isMul i) (isDiv i) (operandsOf i) e (predict i p m) ≡ false
+  pub latency : oddLatency (isMul i) (isDiv i) (operandsOf i) ≡ false
+  pub swap : oddSwap (e .«branch_new_mode») (predict i p m) (e .redirect) ≡ false
+  pub mode : oddMode (kind i) (e .«branch_new_mode») (e .redirect) ≡ false
+  pub bounds : oddBounds (operandsOf i) e ≡ false
 
-even : (u : Bool) (i : Decoded) (p : ℕ) (m : Mode) (x y : ℕ) → Even u i p m x y
+pub even : (u : Bool) (i : Decoded) (p : ℕ) (m : Mode) (x y : ℕ) → Even i p m (effectOf u i p x y)
 unfolding odd
 even u i p m x y =
     let e = effectOf u i p x y in
@@ -392,14 +392,13 @@ pub record Plain (i : Decoded) (p : ℕ) (m : Mode) (e : Effect) : Type 0 where
   pub «mem_size» : eqb (e .access .«mem_size») 0 ≡ false
   pub writes : e .alu .writes ≡ true
 
-pub load-plain : (u : Bool) (i : Decoded) (p : ℕ) (m : Mode) (x y : ℕ) → (operandsOf i) .«is_load» ≡ true → Plain i
-    p m (effectOf u i p x y)
+pub load-plain : (i : Decoded) (p : ℕ) (m : Mode) (e : Effect) → Even i p m e → (operandsOf i) .«is_load» ≡ true
+    → Plain i p m e
 unfolding oddLoad bit
-load-plain u i p m x y z =
-    let e = effectOf u i p x y in
+load-plain i p m e v z =
     let o = operandsOf i in
     let g = predict i p m in
-    let r1 = and-r (o .«is_load») _ ((even u i p m x y) .load) z in
+    let r1 = and-r (o .«is_load») _ (v .load) z in
     let w = or-l (isMul i || isDiv i) _ r1 in
     let r2 = or-r (isMul i || isDiv i) _ r1 in
     let t = or-l (isTo (e .redirect) || isTo g) _ r2 in
@@ -424,15 +423,13 @@ pub record Stores (i : Decoded) (e : Effect) : Type 0 where
   pub exception : isException (e .marks .exception) ≡ false
   pub «mem_size» : eqb (e .access .«mem_size») 0 ≡ false
 
-pub store-plain : (u : Bool) (i : Decoded) (p : ℕ) (x y : ℕ) → (operandsOf i) .«is_store» ≡ true → Stores i
-    (effectOf u i p x y)
+pub store-plain : (i : Decoded) (p : ℕ) (m : Mode) (e : Effect) → Even i p m e → (operandsOf i) .«is_store» ≡ true
+    → Stores i e
 unfolding oddStore
-store-plain u i p x y z =
-    let e = effectOf u i p x y in
+store-plain i p m e v z =
     let o = operandsOf i in
-    let g = predict i p Normal in
     let r1 = and-r (o .«is_store») _ (or-r (e .alu .«always_writes» && not (e .alu .writes && isNamed (o .dest))) _
-    ((even u i p Normal x y) .store)) z in
+    (v .store)) z in
     let r2 = or-r (e .alu .writes && isNamed (o .dest)) _ r1 in
     record {
       dest = or-l (e .alu .writes && isNamed (o .dest)) _ r1;
@@ -447,18 +444,14 @@ force-by true true false e = cc
 force-by true false d e = cc
 force-by false w d e = refl
 
-pub force-none : (u : Bool) (i : Decoded) (p : ℕ) (x y : ℕ)
-    → ((effectOf u i p x y) .alu .«always_writes» ||
-    ((effectOf u i p x y) .alu .writes && isNamed ((operandsOf i) .dest))) ≡
-    ((effectOf u i p x y) .alu .writes && isNamed ((operandsOf i) .dest))
+pub force-none : (i : Decoded) (p : ℕ) (m : Mode) (e : Effect) → Even i p m e
+    → (e .alu .«always_writes» || (e .alu .writes && isNamed ((operandsOf i) .dest)))
+    ≡ (e .alu .writes && isNamed ((operandsOf i) .dest))
 unfolding oddStore
-force-none u i p x y =
-    let e = effectOf u i p x y in
+force-none i p m e v =
     let o = operandsOf i in
-    let g = predict i p Normal in
     force-by (e .alu .«always_writes») (e .alu .writes) (isNamed (o .dest))
-    (or-l (e .alu .«always_writes» && not (e .alu .writes && isNamed (o .dest))) _
-    ((even u i p Normal x y) .store))
+    (or-l (e .alu .«always_writes» && not (e .alu .writes && isNamed (o .dest))) _ (v .store))
 
 -- multiplies and divides
 bits : (u v : Bool) → 0 < 2 * bit u + 15 * bit v → (u || v) ≡ true
@@ -467,19 +460,23 @@ bits true v h = refl
 bits false true h = refl
 bits false false h = absurd (omega arith)
 
-pub slow-straight : (u : Bool) (i : Decoded) (p : ℕ) (m : Mode) (x y q : ℕ) → 0 < waits i → mispredict
-    (isTo (predict i p m)) ((effectOf u i p x y) .redirect) q m ≡ Next
+pub slow-straight : (i : Decoded) (p : ℕ) (m : Mode) (e : Effect) → Even i p m e → (q : ℕ) → 0 < waits i
+    → mispredict (isTo (predict i p m)) (e .redirect) q m ≡ Next
 unfolding oddWait
-slow-straight u i p m x y q h =
+slow-straight i p m e v q h =
     on-on (predict i p m) _ q m
     (and-r (isMul i || isDiv i) _
     (or-l _ ((isMul i && isDiv i) || (not (ltb 1 ((operandsOf i) .«n_srcs»)) && not
-    (eqb ((operandsOf i) .«src_b») 0))) ((even u i p m x y) .wait))
+    (eqb ((operandsOf i) .«src_b») 0))) (v .wait))
     (bits (isMul i) (isDiv i) (subst (λ (n : ℕ). 0 < n) (waits-is i) h)))
 
+-- a load does not wait
+pub load-quick : (i : Decoded) → (operandsOf i) .«is_load» ≡ true → waits i ≡ 0
+load-quick i e = (load-plain i 0 Normal _ (even false i 0 Normal 0 0) e) .quick
+
 pub slow-load : (i : Decoded) → 0 < waits i → (operandsOf i) .«is_load» ≡ false
-slow-load i h = nor ((operandsOf i) .«is_load») (λ e. let z = (load-plain false i 0 Normal 0 0 e) .quick in omega
-    arith)
+slow-load i h = nor ((operandsOf i) .«is_load»)
+    (λ e. let z = load-quick i e in omega arith)
 
 bits-in : (u v : Bool) → (u && v) ≡ false → 2 * bit u + 15 * bit v ≤ 15
 unfolding bit
@@ -519,17 +516,14 @@ swap-to (ToMode n) (To p m') h m o = cc
 swap-to (ToMode n) Next Next m o = cc
 swap-to (ToMode n) Next (To p m') m o = mode-eq n m' o
 
-pub swap-kept : (u : Bool) (i : Decoded) (p : ℕ) (m : Mode) (x y f : ℕ) → isTo
-    (mispredict (isTo (predict i p m)) ((effectOf u i p x y) .redirect) f m) ≡ false
-    → (k : Mode) → newModeOr ((effectOf u i p x y) .«branch_new_mode») k ≡ k
-swap-kept u i p m x y f e k = swap-by _ (predict i p m) ((effectOf u i p x y) .redirect) f m
-    ((even u i p m x y) .swap)
-    e k
+pub swap-kept : (i : Decoded) (p : ℕ) (m : Mode) (e : Effect) → Even i p m e → (f : ℕ)
+    → isTo (mispredict (isTo (predict i p m)) (e .redirect) f m) ≡ false
+    → (k : Mode) → newModeOr (e .«branch_new_mode») k ≡ k
+swap-kept i p m e v f h k = swap-by _ (predict i p m) (e .redirect) f m (v .swap) h k
 
-pub swap-new : (u : Bool) (i : Decoded) (p : ℕ) (m : Mode) (x y : ℕ) → newModeOr
-    ((effectOf u i p x y) .«branch_new_mode») (modeOr ((effectOf u i p x y) .redirect) m) ≡ modeOr
-    ((effectOf u i p x y) .redirect) m
-swap-new u i p m x y = swap-to _ (predict i p m) ((effectOf u i p x y) .redirect) m ((even u i p m x y) .swap)
+pub swap-new : (i : Decoded) (p : ℕ) (m : Mode) (e : Effect) → Even i p m e
+    → newModeOr (e .«branch_new_mode») (modeOr (e .redirect) m) ≡ modeOr (e .redirect) m
+swap-new i p m e v = swap-to _ (predict i p m) (e .redirect) m (v .swap)
 
 -- the retired mode: the mode that an instruction goes on in
 stays-by : (n : NewMode) (g h : Redirect) (m : Mode) → oddSwap n g h ≡ false → oddMode m n h ≡ false → newModeOr n m
@@ -541,14 +535,11 @@ stays-by (ToMode n) (To p k) h m o q = cc
 stays-by (ToMode n) Next Next m o q = cc
 stays-by (ToMode n) Next (To p k) m o q = mode-eq n k o
 
-pub mode-stays : (u : Bool) (i : Decoded) (p : ℕ) (m : Mode) (x y : ℕ) → kind i ≡ m
-    → newModeOr ((effectOf u i p x y) .«branch_new_mode») m ≡ modeOr ((effectOf u i p x y) .redirect) m
-mode-stays u i p m x y k =
-    stays-by ((effectOf u i p x y) .«branch_new_mode») (predict i p m) ((effectOf u i p x y) .redirect) m
-    ((even u i p m x y) .swap)
-    (subst (λ (j : Mode). oddMode j ((effectOf u i p x y) .«branch_new_mode») ((effectOf u i p x y) .redirect) ≡
-    false) k
-    ((even u i p m x y) .mode))
+pub mode-stays : (i : Decoded) (p : ℕ) (m : Mode) (e : Effect) → Even i p m e → kind i ≡ m
+    → newModeOr (e .«branch_new_mode») m ≡ modeOr (e .redirect) m
+mode-stays i p m e v k =
+    stays-by (e .«branch_new_mode») (predict i p m) (e .redirect) m (v .swap)
+    (subst (λ (j : Mode). oddMode j (e .«branch_new_mode») (e .redirect) ≡ false) k (v .mode))
 
 -- a redirect leads where the instruction goes
 pub turned : (g : Bool) (h : Redirect) (f : ℕ) (m : Mode) (q : ℕ) (n : Mode) → mispredict g h f m ≡ To q n →

@@ -33,7 +33,7 @@ use Rattle.pipeline.specs.Move.{beginsWait, freeMove, hazard, isSlow, isWait, m
 use Rattle.pipeline.specs.Move.{proceedOr, waitsOn}
 use Rattle.pipeline.specs.Retire.{retire, retireStages}
 use Rattle.word.specs.Words.{bit}
-use Rattle.accuracy.proofs.Instructions.{few, go-cases, kind, load-plain, ok-dest, ok-kind, okIn, slow-load}
+use Rattle.accuracy.proofs.Instructions.{few, go-cases, kind, load-quick, ok-dest, ok-kind, okIn, slow-load}
 use Rattle.accuracy.proofs.Path.{At, asked-at, commit-at, due, dxAt, effOf, latch-at, ld-at, left-at, load-at}
 use Rattle.accuracy.proofs.Path.{load-facts, load-turn, mem-at, mode-at, mode-kept, mode-new, mwAt, next-guessed}
 use Rattle.accuracy.proofs.Path.{next-turned, pc-at, settled, slow-turn, swerve-turn, turnAt, xm-regs-at, xmAt}
@@ -42,7 +42,7 @@ use Rattle.accuracy.proofs.Registers.{zero-read}
 use Rattle.accuracy.specs.Accuracy.{answers}
 use Rattle.accuracy.specs.Count.{count, predictAt}
 use Rattle.accuracy.specs.Names.{Decoded, Dest, Effect, ExMem, IdEx, IfId, MemWb, Mode, Move, Next, NoDest}
-use Rattle.accuracy.specs.Names.{Normal, PipelineCpu, Place, RawInstr, Redirect, Reg, Request, Taken, To}
+use Rattle.accuracy.specs.Names.{PipelineCpu, Place, RawInstr, Redirect, Reg, Request, Taken, To}
 use Rattle.accuracy.specs.Names.{beginWait, keepWaiting, loadUseStall, proceed, redirect}
 
 -- the move by its five values: armed, more than one tick left, a used load, a multiply or divide in ID/EX, the redirect
@@ -831,7 +831,7 @@ module _ (prog : Program) (w₀ : Arch) where
             go-free : s .stages .«ex_armed» ≡ false → due prog w₀ n₂ ≡ t + 3 + waits (I n₂) → Ahead (moveOf s) inp
             unfolding choose moveFrom proceedOr
             go-free a d = split (hazard (s .stages))
-                (λ h. let q = (load-plain false (I n₂) 0 Normal 0 0 (hazard-load h)) .quick in
+                (λ h. let q = load-quick (I n₂) (hazard-load h) in
                 let d3 : due prog w₀ n₂ ≡ t + 3 = omega arith in
                 by-move (loadUseStall Next) (move-is false _ true _ Next a refl h refl
                 (turn-at rs dxe d3 ∙ load-turn prog (W n₂) (hazard-load h))) (go-stall d3 h))

@@ -20,8 +20,8 @@ use Rattle.latch.specs.Forwarding.{cpuidWord, fromMemWb}
 use Rattle.latch.specs.Memory.{destAfter, loads, memWbOf, passedOn, requests, stores, valueAfter, writesAfter}
 use Rattle.latch.specs.Retire.{retireCpuid, retireReg, retiredMode, retiredPc, retiredRegs}
 use Rattle.word.specs.Words.{bit}
-use Rattle.accuracy.proofs.Instructions.{Plain, Stores, force-none, kind, load-plain, mode-stays, settle}
-use Rattle.accuracy.proofs.Instructions.{slow-straight, store-plain, swap-kept, swap-new, turned}
+use Rattle.accuracy.proofs.Instructions.{Even, Plain, Stores, even, force-none, kind, load-plain, mode-stays}
+use Rattle.accuracy.proofs.Instructions.{settle, slow-straight, store-plain, swap-kept, swap-new, turned}
 use Rattle.accuracy.proofs.Registers.{cpuZ-same, fwd-mw, putZ-same, xmRegs, zero-cpu}
 use Rattle.accuracy.specs.Count.{isRedirect, predictAt}
 use Rattle.accuracy.specs.Names.{Dest, Effect, ExMem, IdEx, IfId, MemWb, Mode, Next, NoDest, Redirect, Reg, To}
@@ -53,6 +53,11 @@ dxAt prog w rs = idExOf (isTo (predictAt prog w)) (instructionAt prog w) (w .pc)
 
 unfoldable pub effOf : Program → Arch → Effect
 effOf prog w = effectAt prog (instructionAt prog w) w
+
+-- what every instruction's tests say, of the instruction at w
+even-at : (prog : Program) (w : Arch) → Even (instructionAt prog w) (w .pc) (w .mode) (effOf prog w)
+unfolding effOf effectAt
+even-at prog w = even (prog .user) (instructionAt prog w) (w .pc) (w .mode) _ _
 
 unfoldable pub xmAt : Program → Arch → ExMem
 xmAt prog w = exMemOf (dxAt prog w []) (effOf prog w)
@@ -87,13 +92,11 @@ kept-1 false false h = refl
 
 pub load-facts : (prog : Program) (w : Arch) → (operandsOf (instructionAt prog w)) .«is_load» ≡ true → Plain
     (instructionAt prog w) (w .pc) (w .mode) (effOf prog w)
-unfolding effOf effectAt
-load-facts prog w e = load-plain (prog .user) (instructionAt prog w) (w .pc) (w .mode) _ _ e
+load-facts prog w e = load-plain (instructionAt prog w) (w .pc) (w .mode) _ (even-at prog w) e
 
 store-facts : (prog : Program) (w : Arch) → (operandsOf (instructionAt prog w)) .«is_store» ≡ true → Stores
     (instructionAt prog w) (effOf prog w)
-unfolding effOf effectAt
-store-facts prog w e = store-plain (prog .user) (instructionAt prog w) (w .pc) _ _ e
+store-facts prog w e = store-plain (instructionAt prog w) (w .pc) (w .mode) _ (even-at prog w) e
 
 pub ld-at : (prog : Program) (w : Arch) → loads (xmAt prog w) ≡ (operandsOf (instructionAt prog w)) .«is_load»
 unfolding loads xmAt exMemOf dxAt idExOf idExBy instructionAt
@@ -167,8 +170,8 @@ and-dest false d = refl
 
 wb-at : (prog : Program) (w : Arch) → (xmAt prog w) .writeback ≡ isNamed
     (destOf (effOf prog w) ((operandsOf (instructionAt prog w)) .dest))
-unfolding xmAt exMemOf dxAt idExOf idExBy instructionAt destOf effOf effectAt
-wb-at prog w = force-none (prog .user) (instructionAt prog w) (w .pc) _ _ ∙ and-dest ((effOf prog w) .alu .writes)
+unfolding xmAt exMemOf dxAt idExOf idExBy instructionAt destOf
+wb-at prog w = force-none (instructionAt prog w) (w .pc) (w .mode) _ (even-at prog w) ∙ and-dest ((effOf prog w) .alu .writes)
     ((operandsOf (instructionAt prog w)) .dest)
 
 commit-form : (load store : Bool) (d : Dest) (x y : ℕ) (rs : List ℕ) → getD rs 0 0 ≡ 0 →
@@ -248,8 +251,8 @@ unfolding turnAt predictAt effOf
 load-turn prog w e = (load-facts prog w e) .straight _
 
 pub slow-turn : (prog : Program) (w : Arch) → 0 < waits (instructionAt prog w) → turnAt prog w ≡ Next
-unfolding turnAt predictAt effectAt
-slow-turn prog w e = slow-straight (prog .user) (instructionAt prog w) (w .pc) (w .mode) _ _ _ e
+unfolding turnAt predictAt effOf
+slow-turn prog w e = slow-straight (instructionAt prog w) (w .pc) (w .mode) _ (even-at prog w) _ e
 
 -- where it goes, if its guess holds and if not
 pub next-guessed : (prog : Program) (w : Arch) → kind (instructionAt prog w) ≡ w .mode → turnAt prog w ≡ Next
@@ -268,13 +271,13 @@ next-turned prog w q n e = turned _ _ _ _ q n e
 pub mode-kept : (prog : Program) (w : Arch) → isTo (turnAt prog w) ≡ false → (k : Mode) → retiredMode (mwAt prog w)
     k ≡ k
 unfolding turnAt predictAt retiredMode mwAt memWbOf passedOn destAfter writesAfter valueAfter xmAt exMemOf dxAt idExOf
-    idExBy effectAt instructionAt effOf
-mode-kept prog w e k = swap-kept (prog .user) (instructionAt prog w) (w .pc) (w .mode) _ _ _ e k
+    idExBy instructionAt effOf
+mode-kept prog w e k = swap-kept (instructionAt prog w) (w .pc) (w .mode) _ (even-at prog w) _ e k
 
 pub mode-new : (prog : Program) (w : Arch) → retiredMode (mwAt prog w) ((step prog w) .mode) ≡ (step prog w) .mode
 unfolding retiredMode mwAt memWbOf passedOn destAfter writesAfter valueAfter xmAt exMemOf dxAt idExOf idExBy effectAt
     instructionAt step stepBy effOf
-mode-new prog w = swap-new (prog .user) (instructionAt prog w) (w .pc) (w .mode) _ _
+mode-new prog w = swap-new (instructionAt prog w) (w .pc) (w .mode) _ (even-at prog w)
 
 -- the place after retirement is the step's
 to-or : (g : Redirect) (f : ℕ) → cond (isTo g) (targetOr g 0) f ≡ targetOr g f
@@ -291,7 +294,7 @@ pub mode-at : (prog : Program) (w : Arch) → kind (instructionAt prog w) ≡ w 
     (w .mode) ≡ (step prog w) .mode
 unfolding retiredMode mwAt memWbOf passedOn destAfter writesAfter valueAfter xmAt exMemOf dxAt idExOf idExBy effectAt
     instructionAt step stepBy effOf
-mode-at prog w k = mode-stays (prog .user) (instructionAt prog w) (w .pc) (w .mode) _ _ k
+mode-at prog w k = mode-stays (instructionAt prog w) (w .pc) (w .mode) _ (even-at prog w) k
 
 -- forwarding from MEM/WB over the file that it has been written to changes nothing
 same-word : (p q : Bool) (x f r v : ℕ) → cond p x (cpuidWord q f r (cond p x (cpuidWord q f r v))) ≡ cond p x
