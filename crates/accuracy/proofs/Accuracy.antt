@@ -16,10 +16,11 @@ use Rattle.latch.specs.Latches.{emptyIfId, emptyMemWb}
 use Rattle.latch.specs.Memory.{loads, requests}
 use Rattle.latch.specs.Retire.{halts, isFaulty}
 use Rattle.pipeline.specs.Advance.{advance, awake, next, resting}
-use Rattle.pipeline.specs.Ask.{asks, fetchAt, loadsIn, wantFetch, wantLoad}
+use Rattle.pipeline.specs.Ask.{asks, fetchAt, loadsIn, wantFetch, wantLoad, wantSpecial}
 use Rattle.pipeline.specs.Counting.{countIdle, countRetired}
+use Rattle.pipeline.specs.Execute.{inquiryOf}
 use Rattle.pipeline.specs.Fetch.{fetchPlace, fetches}
-use Rattle.pipeline.specs.Move.{moveOf}
+use Rattle.pipeline.specs.Move.{inquiryIn, isWait, moveOf}
 use Rattle.pipeline.specs.Refusals.{faulty}
 use Rattle.pipeline.specs.Retire.{retire, retireStages}
 use Rattle.pipeline.specs.Start.{fresh}
@@ -35,8 +36,8 @@ use Rattle.accuracy.proofs.Timing.{bound, due-time, time-path}
 use Rattle.accuracy.proofs.Took.{Took, advance-regs, advance-retire-mode, advance-retire-pc, advance-retired}
 use Rattle.accuracy.proofs.Took.{advance-running, offer-is, offer-ok, retire-off, took}
 use Rattle.accuracy.specs.Accuracy.{Demand3, Demand3For, Retires, Run, after, answers, begin}
-use Rattle.accuracy.specs.Accuracy.{firstOffer, offered, one, oneBy}
-use Rattle.accuracy.specs.Names.{Given, MemWb, Move, PipelineCpu, RawInstr, Request, Start, Taken}
+use Rattle.accuracy.specs.Accuracy.{firstOffer, firstSaid, offered, one, oneBy, said}
+use Rattle.accuracy.specs.Names.{Given, MemWb, Move, Of, PipelineCpu, RawInstr, Request, Start, Taken}
 
 module _ (prog : Program) (w₀ : Arch) (len : length (w₀ .reg) ≡ 32) (nought : getD (w₀ .reg) 0 0 ≡ 0) where
   pub data Inv (r : Run) (left : List ℕ) (k : ℕ) : Type 0 where
@@ -189,6 +190,10 @@ module _ (prog : Program) (w₀ : Arch) (len : length (w₀ .reg) ≡ 32) (nough
               (wantFetch (r .state)) ((fetchAt (r .state)) .mode) (tk .fetch) wf (tk .fair),
         )
 
+    hc : isWait (moveOf s₁) ≡ false → (n : ℕ) → inquiryOf (s₁ .stages) (s₁ .reg) ≡ Of n → t .special ≡ prog .table n
+    unfolding wantSpecial inquiryIn
+    hc w n e = off .special n (rw (aw, w) e)
+
     asks₁ : asks ((r .state) .stages) ≡ requests (s₁ .stages .«ex_mem»)
     unfolding asks retire
     asks₁ = ap (λ (b : Bool). cond b (requests (s₁ .stages .«ex_mem»)) []) aw
@@ -202,7 +207,7 @@ module _ (prog : Program) (w₀ : Arch) (len : length (w₀ .reg) ≡ 32) (nough
         count₁)))
         (λ h.
         let mid = retire-live prog w₀ len nought (r .state) t₀ (r .requests) left k n₁ n₂ lv no-fault h in
-        let x = next-live prog w₀ len nought s₁ t₀ (r .requests) left n₁ n₂ mid x₁ hv (hi (mid .running)) in
+        let x = next-live prog w₀ len nought s₁ t₀ (r .requests) left n₁ n₂ mid x₁ hv (hi (mid .running)) hc in
         done (live n₂ (x .0) (suc t₀) (to-live _ _ _ _ _ _ _ _ (r .requests) _ _ went asks₁ left-on (x .1))
         (ap suc clock)))
 
@@ -346,14 +351,14 @@ demand3-fed prog v eu ef len ts l off fe N one≤ le =
 
 -- the machine that takes the list's answers whole
 pub demand3-for : Demand3For
-demand3-for f v ts len a N one≤ le =
-    let prog = wholeProgram v f in
+demand3-for f g v ts len a b N one≤ le =
+    let prog = wholeProgram v f g in
     let r = begin v in
     subst (λ (l : List ℕ). Retires prog (archWith v l) r ts N) (append-nil _)
-    (demand3-fed prog v refl refl len ts (answers r ts ++ []) (all-meet prog ts r a)
+    (demand3-fed prog v refl refl len ts (answers r ts ++ []) (all-meet prog ts r a b)
     (fed-whole prog (λ w x. refl) ts r [])
     N one≤ le)
 
 pub demand3 : Demand3
-demand3 v ts len a N one≤ le =
-    demand3-for (firstOffer (offered (begin v) ts)) v ts len a N one≤ le
+demand3 v ts len a b N one≤ le =
+    demand3-for (firstOffer (offered (begin v) ts)) (firstSaid (said (begin v) ts)) v ts len a b N one≤ le

@@ -4,6 +4,7 @@ use mathlib.Core.Bool.{Bool, _&&_, cond, false, true}
 use mathlib.Core.List.{List, [], _++_, _∷_}
 use mathlib.Core.Path.{_∙_, _≡_, ap, refl, sym}
 use native.Mathlib.Omega.{arith}
+use Rattle.isa.specs.Inquiries.{isInquiry, isSaid}
 use Rattle.isa.specs.Machine.{requestOf}
 use Rattle.isa.specs.Operands.{bare, okDest, okOperands, operandsN, plain}
 use Rattle.isa.specs.Refusals.{instructionCode, isOf, rawCode}
@@ -14,14 +15,15 @@ use Rattle.pipeline.specs.Ask.{ask, askedBy, asks, fetchAt, fetchOf, loadsIn, w
 use Rattle.pipeline.specs.Counting.{counterFull}
 use Rattle.pipeline.specs.Refusals.{andThen, codeOf, faulty, outOfBounds, stateTests}
 use Rattle.pipeline.specs.Retire.{retireStages}
-use Rattle.pipeline.specs.Tick.{Result, fitsOffer, isAnswer, moved, offerCode, refused, same, taken, tests, tick}
-use Rattle.pipeline.specs.Tick.{verdict}
+use Rattle.pipeline.specs.Tick.{Result, fitsOffer, fitsSpecial, isAnswer, moved, offerCode, refused, same, taken}
+use Rattle.pipeline.specs.Tick.{tests, tick, verdict}
 use Rattle.accuracy.proofs.Took.{takes, took}
-use Rattle.accuracy.specs.Accuracy.{Run, offered, offeredBy, one, oneBy}
+use Rattle.accuracy.specs.Accuracy.{Run, offered, offeredBy, one, oneBy, said, saidBy}
 use Rattle.accuracy.specs.Asking.{Asking, Gives, fitsFetch, isLoad, listed}
-use Rattle.accuracy.specs.Names.{Answer, Fetch, From, Given, Instr, Load, Mode, NoAnswer, NoFetch, NoRequest, Nop}
-use Rattle.accuracy.specs.Names.{Normal, NotAsked, Nothing, Offer, PipelineCpu, Place, RawInstr, RawNormal}
-use Rattle.accuracy.specs.Names.{RawShort, Request, Short, Stages, Store, Wanted, Wants, Word}
+use Rattle.accuracy.specs.Names.{Answer, Fetch, From, Given, Inquiry, Instr, Load, Mode, NoAnswer, NoFetch}
+use Rattle.accuracy.specs.Names.{NoInquiry, NoRequest, NoSuch, Nop, Normal, NotAsked, Nothing, Of, Offer}
+use Rattle.accuracy.specs.Names.{PipelineCpu, Place, RawInstr, RawNormal, RawShort, Request, Short, Special}
+use Rattle.accuracy.specs.Names.{Stages, Store, Unsaid, Wanted, Wants, Word}
 
 -- the offer that is wanted, by the fetch that asking names
 fits-same : (b : Bool) (p : Place) (o : Offer) → fitsFetch (fetchOf b p) o ≡ fitsOffer b (p .mode) o
@@ -102,7 +104,7 @@ stands s w e = stands-by (outOfBounds (s .stages)) (faulty (s .stages)) (counter
 -- a tick that gives what is wanted is accepted
 accepts : (s : PipelineCpu) (w : Wanted) (t : Given) → ask s ≡ Wants w → Gives w t
     → tick s t ≡ moved (next s (taken t))
-unfolding wanted
+unfolding wanted fitsSpecial
 accepts s w t e g =
     let k = stands s w e in
     takes s t (next s (taken t)) (record {
@@ -114,12 +116,13 @@ accepts s w t e g =
           ∙ ap (λ (x : Wanted). fitsFetch (x .fetch) (t .offer)) (k .is) ∙ g .offer;
       «is_load» = is-same _ _
           (g .answer ∙ ap (λ (x : Wanted). isLoad (x .request)) (sym (k .is)) ∙ wants-load (s .stages));
+      special = is-same _ _ (g .special ∙ ap (λ (x : Wanted). isInquiry (x .special)) (sym (k .is)));
       is = refl;
     })
 
 -- an accepted tick gives what is wanted
 gives : (s s′ : PipelineCpu) (w : Wanted) (t : Given) → ask s ≡ Wants w → tick s t ≡ moved s′ → Gives w t
-unfolding wanted
+unfolding wanted fitsSpecial
 gives s s′ w t e h =
     let k = stands s w e in
     let x = took s t s′ h in
@@ -129,6 +132,7 @@ gives s s′ w t e h =
       code = x .fair;
       answer = same-is _ _ (x .«is_load») ∙ sym (wants-load (s .stages))
           ∙ ap (λ (x : Wanted). isLoad (x .request)) (k .is);
+      special = same-is _ _ (x .special) ∙ ap (λ (x : Wanted). isInquiry (x .special)) (k .is);
     }
 
 -- a list's requests grow by the one that is wanted
@@ -163,6 +167,14 @@ offers r w t ts p m i e g f h =
       place-of (wantFetch (r .state)) (fetchAt (r .state)) p m (ap (λ (x : Wanted). x .fetch) (k .is) ∙ f),
     )
 
+-- what is said counts for the special register that is asked for
+says : (r : Run) (w : Wanted) (t : Given) (ts : List Given) (n : ℕ) → ask (r .state) ≡ Wants w → Gives w t
+    → w .special ≡ Of n → said r (t ∷ ts) ≡ (n, t .special) ∷ said (one r t) ts
+unfolding said saidBy wanted
+says r w t ts n e g f =
+    let k = stands (r .state) w e in
+    rw (accepts (r .state) w t e g, ap (λ (x : Wanted). x .special) (k .is) ∙ f)
+
 -- where asking is refused, so is the tick, by the three tests
 refuses-by : (a b c : Bool) (x : Wanted) (o : Result) (n : ℕ)
     → askedBy (cond a 11 (cond b 12 (cond c 13 0))) x ≡ NotAsked n
@@ -190,12 +202,18 @@ answer-for NoRequest = NoAnswer
 answer-for (Load a w) = Word 0
 answer-for (Store a w v) = NoAnswer
 
+-- no such register, where one is asked for
+special-for : Inquiry → Special
+special-for NoInquiry = Unsaid
+special-for (Of n) = NoSuch
+
 -- these give what is wanted
-given-for : (f : Fetch) (q : Request)
-    → Gives (record { fetch = f; request = q }) (record { offer = offer-for f; answer = answer-for q })
-unfolding offer-for answer-for fitsFetch fitsOffer isOf offerCode rawCode instructionCode isAnswer isLoad operandsN
-    okOperands bare plain okDest
-given-for f q = record { offer = fit f; code = coded f; answer = ans q }
+given-for : (f : Fetch) (q : Request) (i : Inquiry)
+    → Gives (record { fetch = f; request = q; special = i })
+    (record { offer = offer-for f; answer = answer-for q; special = special-for i })
+unfolding offer-for answer-for special-for isSaid isInquiry fitsFetch fitsOffer isOf offerCode rawCode instructionCode
+    isAnswer isLoad operandsN okOperands bare plain okDest
+given-for f q i = record { offer = fit f; code = coded f; answer = ans q; special = spe i }
   where
     fit : (f : Fetch) → fitsFetch f (offer-for f) ≡ true
     fit NoFetch = refl
@@ -212,17 +230,25 @@ given-for f q = record { offer = fit f; code = coded f; answer = ans q }
     ans (Load a w) = refl
     ans (Store a w v) = refl
 
+    spe : (i : Inquiry) → isSaid (special-for i) ≡ isInquiry i
+    spe NoInquiry = refl
+    spe (Of n) = refl
+
 -- all of it
 pub asking : Asking
 asking = record {
   given = λ w. (
-    record { offer = offer-for (w .fetch); answer = answer-for (w .request) },
-    given-for (w .fetch)
-        (w .request),
+    record {
+      offer = offer-for (w .fetch);
+      answer = answer-for (w .request);
+      special = special-for (w .special);
+    },
+    given-for (w .fetch) (w .request) (w .special),
   );
   accepts = accepts;
   only = gives;
   offers = offers;
+  says = says;
   requests = grow;
   refuses = refuses;
 }

@@ -8,7 +8,8 @@ use mathlib.Core.Path.{ap, _≡_, refl, subst}
 use native.Mathlib.Omega.{arith}
 use Rattle.isa.proofs.Bools.{or-l, or-r, split, un-not}
 use Rattle.isa.proofs.NoCode.{no-code, none}
-use Rattle.isa.specs.Effect.{marked, noAccess, raises}
+use Rattle.isa.specs.Effect.{gives, goesOn, marked, noAccess, raises}
+use Rattle.isa.specs.Inquiries.{fill, isInquiry, mfsrWith}
 use Rattle.isa.specs.Machine.{destOf}
 use Rattle.isa.specs.Operands.{bare, okDest, okOperands, operandsN, operandsOf, plain}
 use Rattle.isa.specs.Redirects.{isException, isTo}
@@ -32,9 +33,9 @@ use Rattle.pipeline.specs.Start.{fresh}
 use Rattle.pipeline.specs.Tick.{moved, offerCode, rawOf, taken, tick}
 use Rattle.accuracy.proofs.Instructions.{short-ok, sources-in, waits-in, width-in}
 use Rattle.accuracy.proofs.Took.{took}
-use Rattle.accuracy.specs.Names.{Dest, Effect, ExMem, Given, IdEx, IfId, Instr, Mode, Move, Nothing, Offer}
-use Rattle.accuracy.specs.Names.{PipelineCpu, Place, RawInstr, RawNormal, RawShort, Stages, Start, Taken}
-use Rattle.accuracy.specs.Names.{beginWait, keepWaiting, loadUseStall, proceed, redirect}
+use Rattle.accuracy.specs.Names.{Dest, Effect, ExMem, Given, IdEx, IfId, Instr, Mode, Move, NoSuch, Nothing, Offer}
+use Rattle.accuracy.specs.Names.{PipelineCpu, Place, RawInstr, RawNormal, RawShort, Special, SpecialWord, Stages}
+use Rattle.accuracy.specs.Names.{Start, Taken, Unsaid, beginWait, keepWaiting, loadUseStall, proceed, redirect}
 
 -- the bounds, one by one
 pub record Within (l : Stages) : Type 0 where
@@ -74,7 +75,7 @@ over n e = let h = ltb-true n 32 e in le-ltb 31 n (omega arith)
 
 raw-ok : (r : RawInstr) → ltb 0 (rawCode r) ≡ false → okOperands (operandsOf (decodedOf r)) ≡ true
 unfolding rawCode decodedOf operandsOf
-raw-ok (RawNormal i) e = no-code i (none _ e) .0
+raw-ok (RawNormal i) e = no-code i (none _ e)
 raw-ok (RawShort h) e = short-ok (decodeShort h)
 
 raw-code : (r : RawInstr) → ltb 0 (rawCode r) ≡ false → ltb 0 (decodedCode (decodedOf r)) ≡ false
@@ -107,6 +108,14 @@ effect-in : (u : Bool) (l : IdEx) (x y : ℕ) → badWidth ((effectIn u l x y) .
 unfolding effectIn raises marked noAccess badWidth
 effect-in u l x y = split (isException (l .exception)) (λ e. rw e) (λ e. rw e (width-in u (l .decoded) (l .pc) x y))
 
+-- what is said changes no width
+fill-in : (c : Special) (e : Effect) → badWidth (e .access .«mem_size») ≡ false
+    → badWidth ((fill c e) .access .«mem_size») ≡ false
+unfolding fill mfsrWith raises marked gives goesOn noAccess badWidth
+fill-in c e h = split (isInquiry (e .inquiry))
+    (λ q. rw q (elim c [ Unsaid ↦ refl | NoSuch ↦ refl | SpecialWord v ↦ refl ]))
+    (λ q. rw q h)
+
 latch-in : (l : IdEx) (e : Effect) → badIdEx l ≡ false → badWidth (e .access .«mem_size») ≡ false
     → badExMem (exMemOf l e) ≡ false
 unfolding badIdEx badExMem exMemOf
@@ -115,14 +124,15 @@ latch-in l e h w =
     let d = un-not _ (or-l (not (okDest (l .dest))) _ (or-r (ltb 0 (decodedCode (l .decoded))) _ h)) in
     rw (c, dest-in e (l .dest) d, w)
 
-execute-in : (s : PipelineCpu) → badIdEx (s .stages .«id_ex») ≡ false → badExMem (executed (s .stages) (s .reg)) ≡ false
+execute-in : (s : PipelineCpu) (c : Special) → badIdEx (s .stages .«id_ex») ≡ false
+    → badExMem (executed (s .stages) (s .reg) c) ≡ false
 unfolding executed executedBy effectFor effectFrom
-execute-in s e = by (s .stages .«id_ex» .valid)
+execute-in s c e = by (s .stages .«id_ex» .valid)
   where
     by : (b : Bool) → badExMem (cond b
-        (exMemOf (s .stages .«id_ex») (effectFor (s .stages) (s .reg) (s .stages .«id_ex»))) emptyExMem) ≡ false
-    by true = latch-in (s .stages .«id_ex») (effectFor (s .stages) (s .reg) (s .stages .«id_ex»)) e
-        (effect-in (s .stages .user) (s .stages .«id_ex») _ _)
+        (exMemOf (s .stages .«id_ex») (fill c (effectFor (s .stages) (s .reg) (s .stages .«id_ex»)))) emptyExMem) ≡ false
+    by true = latch-in (s .stages .«id_ex») (fill c (effectFor (s .stages) (s .reg) (s .stages .«id_ex»))) e
+        (fill-in c _ (effect-in (s .stages .user) (s .stages .«id_ex») _ _))
     by false = empty-ex-mem
 
 memory-dest : (l : ExMem) (v : ℕ) → okDest (l .dest) ≡ true → okDest ((memWbOf l v) .dest) ≡ true
@@ -202,8 +212,7 @@ advance-in beginWait s y w h = record {
 advance-in (loadUseStall g) s y w h = record {
   «if_id» = held-in (isTo g) (s .stages .«if_id») (w .«if_id»);
   «id_ex» = empty-id-ex;
-  «ex_mem» = execute-in s
-      (w .«id_ex»);
+  «ex_mem» = execute-in s (y .special) (w .«id_ex»);
   «mem_wb» = memory-in (s .stages .«ex_mem») (y .answer) (w .«ex_mem»);
   wait = wait-in (s .stages .«ex_armed») _ (w .wait);
 }
@@ -212,7 +221,7 @@ advance-in proceed s y w h = record {
       (w .«if_id») h;
   «id_ex» = next-in
       s (w .«if_id»);
-  «ex_mem» = execute-in s (w .«id_ex»);
+  «ex_mem» = execute-in s (y .special) (w .«id_ex»);
   «mem_wb» = memory-in (s .stages .«ex_mem») (y .answer) (w .«ex_mem»);
   wait =
       wait-in (s .stages .«ex_armed») _ (w .wait);
@@ -222,7 +231,7 @@ advance-in (redirect p m) s y w h = record {
       (y .raw) (w .«if_id»)
       h);
   «id_ex» = empty-id-ex;
-  «ex_mem» = execute-in s (w .«id_ex»);
+  «ex_mem» = execute-in s (y .special) (w .«id_ex»);
   «mem_wb» = memory-in (s .stages .«ex_mem») (y .answer) (w .«ex_mem»);
   wait =
       wait-in (s .stages .«ex_armed») _ (w .wait);

@@ -7,7 +7,7 @@ use Rattle.accuracy.proofs.Asking.{asking}
 use Rattle.accuracy.proofs.Bounds.{fresh-in, tick-in}
 use Rattle.accuracy.proofs.Example.{example}
 use Rattle.accuracy.proofs.Forwarding.{fwd-writes}
-use Rattle.accuracy.proofs.Offers.{first-agrees, source-agrees}
+use Rattle.accuracy.proofs.Offers.{first-agrees, first-says, source-agrees, source-says}
 use Rattle.accuracy.proofs.Sense.{numbered, only-tick}
 use Rattle.accuracy.specs.Accuracy.{Run, one, oneBy}
 use Rattle.accuracy.specs.Claims.{Claims}
@@ -34,7 +34,9 @@ claims = record {
   only = only-tick;
   numbered = numbered;
   premise = first-agrees;
+  premiseSaid = first-says;
   answered = source-agrees;
+  answeredSaid = source-says;
   handsOn = λ r t. hands-on r t (tick (r .state) t);
   handsBack = λ s t n e. by-result s n (tick s t) e;
   asking = asking;

@@ -7,11 +7,11 @@ use mathlib.Core.Bool.{Bool, _&&_, _||_, cond, false, false≢true, not, true}
 use mathlib.Core.Path.{_∙_, _≡_, refl, subst, sym}
 use native.Mathlib.Omega.{arith}
 use Rattle.isa.proofs.Bools.{and-3, and-r, nor, or-l, or-r, split, un-not}
-use Rattle.isa.specs.Effect.{branches, effectN, effectOf, effectS, fall, gives, goesBy, goesOn, identifies, jumps}
-use Rattle.isa.specs.Effect.{links, marked, noAccess, noMarks, noResult, nothing, privileged, raises, reaches, resumes}
-use Rattle.isa.specs.Effect.{sets, stops, written}
+use Rattle.isa.specs.Effect.{branches, effectN, effectOf, effectS, fall, gives, goesBy, goesOn, identifies, inquires}
+use Rattle.isa.specs.Effect.{jumps, links, marked, noAccess, noMarks, noResult, nothing, privileged, raises, reaches}
+use Rattle.isa.specs.Effect.{resumes, sets, stops, written}
 use Rattle.isa.specs.Operands.{bare, binary, branching, divLatency, gpr, loading, mulLatency, okDest, okOperands}
-use Rattle.isa.specs.Operands.{operandsN, operandsOf, operandsS, plain, reads, special, storing, unary, writes}
+use Rattle.isa.specs.Operands.{operandsN, operandsOf, operandsS, plain, reads, storing, unary, writes}
 use Rattle.isa.specs.Redirects.{isException, isTo, modeOr, newModeOr, targetOr}
 use Rattle.isa.specs.Registers.{isNamed}
 use Rattle.isa.specs.Waits.{isDiv, isMul, isNegative, predict, predictBy, slowOf, waits}
@@ -91,9 +91,9 @@ not-oddN : (u : Bool) (i : Instruction) (p n : ℕ) (m : Mode) (x y : ℕ)
 unfolding odd oddLoad oddStore oddWait oddSwap oddLatency oddMode oddBounds badWidth notMode operandsOf operandsN
     effectN isMul isDiv slowOf bit
     isTo
-    isNamed predict predictBy isException bare plain writes unary binary reads loading storing branching special
+    isNamed predict predictBy isException bare plain writes unary binary reads loading storing branching
     nothing written noResult noAccess noMarks goesOn goesBy marked stops resumes identifies
-    gives reaches branches jumps links raises sets privileged
+    gives reaches branches jumps links raises sets inquires privileged
 not-oddN u Nop p n m x y = refl
 not-oddN u (Ld rd base offset) p n m x y = refl
 not-oddN u (St rd base offset) p n m x y = refl
@@ -145,9 +145,9 @@ not-oddS : (i : ShortInstruction) (p n : ℕ) (m : Mode) (x y : ℕ)
 unfolding odd oddLoad oddStore oddWait oddSwap oddLatency oddMode oddBounds badWidth notMode operandsOf operandsS
     effectS isMul isDiv bit
     isTo
-    isNamed predict predictBy isException bare plain writes unary binary reads loading storing branching special
+    isNamed predict predictBy isException bare plain writes unary binary reads loading storing branching
     nothing written noResult noAccess noMarks goesOn goesBy marked stops resumes identifies
-    gives reaches branches jumps links raises sets privileged
+    gives reaches branches jumps links raises sets inquires privileged
 not-oddS (sMov rd rs1) p n m x y = refl
 not-oddS (sAdd rd rs1 rs2) p n m x y = refl
 not-oddS (sAddi rd imm) p n m x y = refl
@@ -205,7 +205,7 @@ unfolding gpr
 gpr-ok r = split (ltb r 15) (λ e. rw e (lt-ltb r 32 (let h = ltb-true r 15 e in omega arith))) (λ e. rw e)
 
 pub short-ok : (i : ShortInstruction) → okOperands (operandsS i) ≡ true
-unfolding okOperands okDest operandsS bare plain writes unary binary reads loading storing branching special
+unfolding okOperands okDest operandsS bare plain writes unary binary reads loading storing branching
 short-ok (sMov rd rs1) = rw (gpr-ok rd, gpr-ok rs1)
 short-ok (sAdd rd rs1 rs2) = rw (gpr-ok rd, gpr-ok rs1, gpr-ok rs2)
 short-ok (sAddi rd imm) = rw (gpr-ok rd)
@@ -242,8 +242,8 @@ settleN : (u : Bool) (i : Instruction) (p x y f : ℕ)
     → (targetOr ((effectN u i (fall p Normal) x y) .redirect) f ≡ targetOr (predict (DecNormal i) p Normal) f)
     × (modeOr ((effectN u i (fall p Normal) x y) .redirect) Normal ≡ modeOr (predict (DecNormal i) p Normal) Normal)
 unfolding predict predictBy operandsOf operandsN effectN isTo targetOr modeOr offset32 bare plain writes unary binary
-    reads loading storing branching special nothing written noResult noAccess noMarks goesOn goesBy marked stops
-    resumes identifies gives reaches branches jumps links raises sets privileged
+    reads loading storing branching nothing written noResult noAccess noMarks goesOn goesBy marked stops
+    resumes identifies gives reaches branches jumps links raises sets inquires privileged
 settleN u Nop p x y f e = settle-on _ f Normal e
 settleN u (Ld rd base offset) p x y f e = settle-on _ f Normal e
 settleN u (St rd base offset) p x y f e = settle-on _ f Normal e
@@ -295,8 +295,8 @@ settleS : (i : ShortInstruction) (p x y f : ℕ)
     → (targetOr ((effectS i (fall p Short) x y) .redirect) f ≡ targetOr (predict (DecShort i) p Short) f)
     × (modeOr ((effectS i (fall p Short) x y) .redirect) Short ≡ modeOr (predict (DecShort i) p Short) Short)
 unfolding predict predictBy operandsOf operandsS effectS isTo targetOr modeOr offset32 bare plain writes unary binary
-    reads loading storing branching special nothing written noResult noAccess noMarks goesOn goesBy marked stops
-    resumes identifies gives reaches branches jumps links raises sets privileged
+    reads loading storing branching nothing written noResult noAccess noMarks goesOn goesBy marked stops
+    resumes identifies gives reaches branches jumps links raises sets inquires privileged
 settleS (sMov rd rs1) p x y f e = settle-on _ f Short e
 settleS (sAdd rd rs1 rs2) p x y f e = settle-on _ f Short e
 settleS (sAddi rd imm) p x y f e = settle-on _ f Short e

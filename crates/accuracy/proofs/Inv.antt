@@ -10,8 +10,9 @@ use native.Mathlib.Omega.{arith}
 use Rattle.isa.proofs.Bools.{split}
 use Rattle.isa.proofs.Machine.{step, walk}
 use Rattle.isa.specs.Effect.{effectOf, fall}
+use Rattle.isa.specs.Inquiries.{fill}
 use Rattle.isa.specs.Machine.{Arch, Machine, Program, destOf, effectAt, first, instructionAt, isBarred, isEmpty}
-use Rattle.isa.specs.Machine.{machine, machineBy, machineStep, rest, stepBy, stopsAt, valueAt}
+use Rattle.isa.specs.Machine.{machine, machineBy, machineStep, openAt, rest, stepBy, stopsAt, valueAt}
 use Rattle.isa.specs.Operands.{okDest, operandsOf}
 use Rattle.isa.specs.Redirects.{isException, isTo, modeOr, targetOr}
 use Rattle.isa.specs.Registers.{isDest, isReg, readReg, writeCpuid}
@@ -26,7 +27,7 @@ use Rattle.latch.specs.Retire.{halts, isFaulty, retiredMode, retiredPc, retired
 use Rattle.pipeline.specs.Advance.{advance, advanceBy, advanceStages, idExAfter, ifIdAfter, placeAfter, waitAfter}
 use Rattle.pipeline.specs.Ask.{asks}
 use Rattle.pipeline.specs.Counting.{countRetired, counted, flushes, stalls}
-use Rattle.pipeline.specs.Execute.{effectFor, executed, executedBy, redirectBy, redirectOf}
+use Rattle.pipeline.specs.Execute.{effectFor, executed, executedBy, inquiryBy, inquiryOf, redirectBy, redirectOf}
 use Rattle.pipeline.specs.Fetch.{fetchFrom, fetchPlace, fetched, fetches, nextIdEx, placeOr, predicted}
 use Rattle.pipeline.specs.Forwarding.{forwarded}
 use Rattle.pipeline.specs.Move.{beginsWait, freeMove, hazard, isSlow, isWait, move, moveFrom, moveOf, nextExMem}
@@ -34,15 +35,17 @@ use Rattle.pipeline.specs.Move.{proceedOr, waitsOn}
 use Rattle.pipeline.specs.Retire.{retire, retireStages}
 use Rattle.word.specs.Words.{bit}
 use Rattle.accuracy.proofs.Instructions.{few, go-cases, kind, load-quick, ok-dest, ok-kind, okIn, slow-load}
-use Rattle.accuracy.proofs.Path.{At, asked-at, commit-at, due, dxAt, effOf, latch-at, ld-at, left-at, load-at}
-use Rattle.accuracy.proofs.Path.{load-facts, load-turn, mem-at, mode-at, mode-kept, mode-new, mwAt, next-guessed}
-use Rattle.accuracy.proofs.Path.{next-turned, pc-at, settled, slow-turn, swerve-turn, turnAt, xm-regs-at, xmAt}
+use Rattle.accuracy.proofs.Path.{At, asked-at, commit-at, due, dxAt, effOf, filled-at, latch-at, ld-at, left-at}
+use Rattle.accuracy.proofs.Path.{load-at, load-facts, load-turn, mem-at, mode-at, mode-kept, mode-new, mwAt}
+use Rattle.accuracy.proofs.Path.{next-guessed, next-turned, openOf, pc-at, settled, slow-turn, swerve-turn, turnAt}
+use Rattle.accuracy.proofs.Path.{way-at, xm-regs-at, xmAt}
 use Rattle.accuracy.proofs.Registers.{fwd-load, fwd-xm, length-cpu, length-put, read-put, zero-cpu, zero-put}
 use Rattle.accuracy.proofs.Registers.{zero-read}
 use Rattle.accuracy.specs.Accuracy.{answers}
 use Rattle.accuracy.specs.Count.{count, predictAt}
-use Rattle.accuracy.specs.Names.{Decoded, Dest, Effect, ExMem, IdEx, IfId, MemWb, Mode, Move, Next, NoDest}
-use Rattle.accuracy.specs.Names.{PipelineCpu, Place, RawInstr, Redirect, Reg, Request, Taken, To}
+use Rattle.accuracy.specs.Names.{Decoded, Dest, Effect, ExMem, IdEx, IfId, Inquiry, MemWb, Mode, Move, Next}
+use Rattle.accuracy.specs.Names.{NoDest, NoInquiry, Of, PipelineCpu, Place, RawInstr, Redirect, Reg, Request}
+use Rattle.accuracy.specs.Names.{Special, Taken, To}
 use Rattle.accuracy.specs.Names.{beginWait, keepWaiting, loadUseStall, proceed, redirect}
 
 -- the move by its five values: armed, more than one tick left, a used load, a multiply or divide in ID/EX, the redirect
@@ -450,8 +453,8 @@ module _ (prog : Program) (w₀ : Arch) where
 
       -- what ID/EX does is what the path's instruction does
       effect-at : (rs : List ℕ) → due prog w₀ n₂ ≡ t + 3 → effectFor (s .stages) (s .reg) (dxAt prog
-          (W n₂) rs) ≡ effOf prog (W n₂)
-      unfolding effectFor effectFrom forwarded dxAt idExOf idExBy instructionAt effectIn isException effOf effectAt
+          (W n₂) rs) ≡ openOf prog (W n₂)
+      unfolding effectFor effectFrom forwarded dxAt idExOf idExBy instructionAt effectIn isException openOf openAt
       effect-at rs d =
           ap (λ (u : Bool). effectOf u (I n₂) ((W n₂) .pc) (forwarded (s .stages) (s .reg) ((operandsOf
           (I n₂)) .«src_a»))
@@ -461,20 +464,38 @@ module _ (prog : Program) (w₀ : Arch) where
           ∙ ap (λ (y : ℕ). effectOf (prog .user) (I n₂) ((W n₂) .pc)
           (readReg ((W n₂) .reg) ((operandsOf (I n₂)) .«src_a»)) y) (opB-at rs d)
 
+      -- what ID/EX asks for is what the path's instruction asks for
+      inquire : IdEx → Inquiry
+      inquire l = cond (l .valid) ((effectFor (s .stages) (s .reg) l) .inquiry) NoInquiry
+
+      inquire-at : (rs : List ℕ) → due prog w₀ n₂ ≡ t + 3 → inquire (dxAt prog (W n₂) rs) ≡ (openOf prog (W n₂)) .inquiry
+      unfolding inquire dxAt idExOf idExBy
+      inquire-at rs d = ap (λ (e : Effect). e .inquiry) (effect-at rs d)
+
+      asks-at : (rs : List ℕ) → s .stages .«id_ex» ≡ dxAt prog (W n₂) rs → due prog w₀ n₂ ≡ t + 3
+          → inquiryOf (s .stages) (s .reg) ≡ (openOf prog (W n₂)) .inquiry
+      unfolding inquiryOf inquiryBy inquire
+      asks-at rs e d = ap (λ (l : IdEx). inquire l) e ∙ inquire-at rs d
+
+      -- c is what the program says of the special register that ID/EX asks for
+      abbrev Says : Special → Type 0
+      Says c = (n : ℕ) → inquiryOf (s .stages) (s .reg) ≡ Of n → c ≡ prog .table n
+
       -- ID/EX, executed
-      run : IdEx → ExMem
-      run l = cond (l .valid) (exMemOf l (effectFor (s .stages) (s .reg) l)) emptyExMem
+      run : Special → IdEx → ExMem
+      run c l = cond (l .valid) (exMemOf l (fill c (effectFor (s .stages) (s .reg) l))) emptyExMem
 
-      run-at : (rs : List ℕ) → due prog w₀ n₂ ≡ t + 3 → run (dxAt prog (W n₂) rs) ≡ xmAt prog (W n₂)
+      run-at : (c : Special) (rs : List ℕ) → due prog w₀ n₂ ≡ t + 3
+          → ((n : ℕ) → (openOf prog (W n₂)) .inquiry ≡ Of n → c ≡ prog .table n)
+          → run c (dxAt prog (W n₂) rs) ≡ xmAt prog (W n₂)
       unfolding run dxAt idExOf idExBy xmAt
-      run-at rs d = ap (λ (e : Effect). exMemOf (dxAt prog (W n₂) rs) e) (effect-at rs d) ∙ latch-at prog (W n₂) rs
-          (effOf prog (W n₂))
+      run-at c rs d h = ap (λ (e : Effect). exMemOf (dxAt prog (W n₂) rs) e)
+          (ap (fill c) (effect-at rs d) ∙ filled-at prog (W n₂) c h) ∙ latch-at prog (W n₂) rs (effOf prog (W n₂))
 
-      execute-at : (rs : List ℕ) → s .stages .«id_ex» ≡ dxAt prog (W n₂) rs → due prog w₀ n₂ ≡ t + 3 → executed
-          (s .stages) (s .reg) ≡ xmAt
-          prog (W n₂)
+      execute-at : (c : Special) (rs : List ℕ) → Says c → s .stages .«id_ex» ≡ dxAt prog (W n₂) rs
+          → due prog w₀ n₂ ≡ t + 3 → executed (s .stages) (s .reg) c ≡ xmAt prog (W n₂)
       unfolding executed executedBy run
-      execute-at rs e d = ap (λ (l : IdEx). run l) e ∙ run-at rs d
+      execute-at c rs h e d = ap (λ (l : IdEx). run c l) e ∙ run-at c rs d (λ n q. h n (asks-at rs e d ∙ q))
 
       -- the redirect of ID/EX
       bend : IdEx → Redirect
@@ -483,8 +504,9 @@ module _ (prog : Program) (w₀ : Arch) where
 
       bend-at : (rs : List ℕ) → due prog w₀ n₂ ≡ t + 3 → bend (dxAt prog (W n₂) rs) ≡ turnAt prog (W n₂)
       unfolding bend dxAt idExOf idExBy instructionAt turnAt predictAt effOf
-      bend-at rs d = ap (λ (e : Effect). mispredict (isTo (predictAt prog (W n₂))) (e .redirect)
-          (fall ((W n₂) .pc) ((W n₂) .mode)) ((W n₂) .mode)) (effect-at rs d)
+      bend-at rs d = ap (λ (g : Redirect). mispredict (isTo (predictAt prog (W n₂))) g
+          (fall ((W n₂) .pc) ((W n₂) .mode)) ((W n₂) .mode))
+          (ap (λ (e : Effect). e .redirect) (effect-at rs d) ∙ sym (way-at prog (W n₂)))
 
       turn-at : (rs : List ℕ) → s .stages .«id_ex» ≡ dxAt prog (W n₂) rs → due prog w₀ n₂ ≡ t + 3 → redirectOf
           (s .stages) (s .reg) ≡ turnAt
@@ -492,9 +514,9 @@ module _ (prog : Program) (w₀ : Arch) where
       unfolding redirectOf redirectBy bend
       turn-at rs e d = ap (λ (l : IdEx). bend l) e ∙ bend-at rs d
 
-      execute-none : s .stages .«id_ex» ≡ emptyIdEx → executed (s .stages) (s .reg) ≡ emptyExMem
+      execute-none : (c : Special) → s .stages .«id_ex» ≡ emptyIdEx → executed (s .stages) (s .reg) c ≡ emptyExMem
       unfolding executed executedBy run emptyIdEx
-      execute-none e = ap (λ (l : IdEx). run l) e
+      execute-none c e = ap (λ (l : IdEx). run c l) e
 
       redirect-none : s .stages .«id_ex» ≡ emptyIdEx → redirectOf (s .stages) (s .reg) ≡ Next
       unfolding redirectOf redirectBy bend emptyIdEx
@@ -661,7 +683,8 @@ module _ (prog : Program) (w₀ : Arch) where
           (prog .take ((s .stages .«ex_mem») .«mem_size») (first left) ≡ inp .answer))
           (hi : (m : Move) → moveOf s ≡ m → fetches m ≡ true → (decodedOf (inp .raw) ≡ prog .instruction
           ((fetchPlace m (s .stages)) .pc) ((fetchPlace m (s .stages)) .mode)) ×
-          (okIn (decodedOf (inp .raw)) ((fetchPlace m (s .stages)) .mode) ≡ true)) where
+          (okIn (decodedOf (inp .raw)) ((fetchPlace m (s .stages)) .mode) ≡ true))
+          (hc : isWait (moveOf s) ≡ false → Says (inp .special)) where
         by-move : (m : Move) → moveOf s ≡ m → Ahead m inp → Ahead (moveOf s) inp
         by-move m e h = subst (λ (k : Move). Ahead k inp) (sym e) h
 
@@ -678,7 +701,7 @@ module _ (prog : Program) (w₀ : Arch) where
               n₂,
               assemble (advance proceed s inp) (inp .answer) n₂ hv refl refl refl refl refl refl
                   refl refl
-                  (gap (execute-none x))
+                  (gap (execute-none (inp .special) x))
                   (front-fetch n₂ inp x e p q ((hi proceed mv refl) .0) (omega arith) ((hi proceed mv refl) .1)),
             )
 
@@ -694,7 +717,7 @@ module _ (prog : Program) (w₀ : Arch) where
               n₂,
               assemble (advance proceed s inp) (inp .answer) n₂ hv refl refl refl refl refl refl
                   refl refl
-                  (gap (execute-none x))
+                  (gap (execute-none (inp .special) x))
                   (front-flow n₂ inp e p q ((hi proceed mv refl) .0) (omega arith) o ((hi proceed mv refl) .1)),
             )
 
@@ -750,17 +773,23 @@ module _ (prog : Program) (w₀ : Arch) where
             unfolding isTo bit
             due-next b e h = due-suc n₂ ∙ rw (e, h) (omega arith)
 
-            go-stall : due prog w₀ n₂ ≡ t + 3 → hazard (s .stages) ≡ true → Ahead (loadUseStall Next) inp
+            -- ID/EX executes in a move m that is no wait
+            executes : (m : Move) → moveOf s ≡ m → isWait m ≡ false → due prog w₀ n₂ ≡ t + 3
+                → executed (s .stages) (s .reg) (inp .special) ≡ xmAt prog (W n₂)
+            executes m mv w d = execute-at (inp .special) rs (hc (ap isWait mv ∙ w)) dxe d
+
+            go-stall : due prog w₀ n₂ ≡ t + 3 → hazard (s .stages) ≡ true → moveOf s ≡ loadUseStall Next
+                → Ahead (loadUseStall Next) inp
             unfolding advance advanceBy advanceStages idExAfter ifIdAfter isWait waitAfter placeAfter counted stalls
                 flushes placeOr fetchFrom nextExMem bit isTo targetOr modeOr
-            go-stall d h =
+            go-stall d h mv =
                 let eo = load-turn prog (W n₂) (hazard-load h) in
                 let dn = due-next true eo (sym (hazard-next eo) ∙ h) in (
                   suc n₂,
                   assemble (advance (loadUseStall Next) s inp) (inp .answer) (suc n₂) hv refl refl refl refl refl
                       refl refl
                       refl
-                      (full (execute-at rs dxe d) (omega arith) okn)
+                      (full (executes _ mv refl d) (omega arith) okn)
                       (f1 refl (fd-next eo) refl (fpc-next eo) (fmode-next eo) (omega arith) (ok-next eo)),
                 )
 
@@ -775,7 +804,7 @@ module _ (prog : Program) (w₀ : Arch) where
                   suc n₂,
                   assemble (advance proceed s inp) (inp .answer) (suc n₂) hv refl refl refl refl refl refl refl
                       refl
-                      (full (execute-at rs dxe d) (omega arith) okn)
+                      (full (executes _ mv refl d) (omega arith) okn)
                       (front-flow (suc n₂) inp (fd-next eo) (fpc-next eo) (fmode-next eo) ((hi proceed mv refl) .0)
                       (omega arith) (ok-next eo) ((hi proceed mv refl) .1)),
                 )
@@ -785,16 +814,16 @@ module _ (prog : Program) (w₀ : Arch) where
             unfolding isTo bit
             due-flush p m d e = due-suc n₂ ∙ rw (d, turn-used n₂ p m (I (suc n₂)) e, e) (omega arith)
 
-            go-flush : due prog w₀ n₂ ≡ t + 3 → (p : ℕ) (m : Mode) → turnAt prog (W n₂) ≡ To p m → Ahead
-                (redirect p m) inp
+            go-flush : due prog w₀ n₂ ≡ t + 3 → (p : ℕ) (m : Mode) → turnAt prog (W n₂) ≡ To p m
+                → moveOf s ≡ redirect p m → Ahead (redirect p m) inp
             unfolding advance advanceBy advanceStages idExAfter ifIdAfter isWait waitAfter placeAfter counted stalls
                 flushes placeOr fetchFrom nextExMem cleared walk
-            go-flush d p m e =
+            go-flush d p m e mv =
                 let g = next-turned prog (W n₂) p m e in (
                   suc n₂,
                   assemble (advance (redirect p m) s inp) (inp .answer) (suc n₂) hv refl refl refl refl refl refl
                       refl refl
-                      (full (execute-at rs dxe d) (omega arith) okn)
+                      (full (executes _ mv refl d) (omega arith) okn)
                       (f0 refl refl refl (g .0) (g .1) (due-flush p m d e)),
                 )
 
@@ -833,8 +862,9 @@ module _ (prog : Program) (w₀ : Arch) where
             go-free a d = split (hazard (s .stages))
                 (λ h. let q = load-quick (I n₂) (hazard-load h) in
                 let d3 : due prog w₀ n₂ ≡ t + 3 = omega arith in
-                by-move (loadUseStall Next) (move-is false _ true _ Next a refl h refl
-                (turn-at rs dxe d3 ∙ load-turn prog (W n₂) (hazard-load h))) (go-stall d3 h))
+                let mv = move-is false _ true _ Next a refl h refl
+                (turn-at rs dxe d3 ∙ load-turn prog (W n₂) (hazard-load h)) in
+                by-move (loadUseStall Next) mv (go-stall d3 h mv))
                 (λ h. split (ltb 0 (waits (I n₂)))
                 (λ w. by-move beginWait (move-is false _ false true _ a refl h (slow-is rs dxe ∙ w) refl)
                 (go-arm d (ltb-true 0 (waits (I n₂)) w)))
@@ -844,9 +874,8 @@ module _ (prog : Program) (w₀ : Arch) where
                 go-cases (turnAt prog (W n₂))
                 (λ e. let mv = move-is false (ltb 1 (s .stages .«ex_cycles_left»)) false false Next a refl h
                 (slow-is rs dxe ∙ w) (r ∙ e) in by-move proceed mv (go-flow d3 h e mv))
-                (λ p m e. by-move (redirect p m) (move-is false (ltb 1 (s .stages .«ex_cycles_left»)) false false
-                (To p m)
-                a refl h (slow-is rs dxe ∙ w) (r ∙ e)) (go-flush d3 p m e))))
+                (λ p m e. let mv = move-is false (ltb 1 (s .stages .«ex_cycles_left»)) false false (To p m)
+                a refl h (slow-is rs dxe ∙ w) (r ∙ e) in by-move (redirect p m) mv (go-flush d3 p m e mv))))
 
             go-waiting : s .stages .«ex_armed» ≡ true → suc (due prog w₀ n₂) ≡ t + 3 + s .stages .«ex_cycles_left» → 1 ≤
                 s .stages .«ex_cycles_left» → s .stages .«ex_cycles_left» ≤ waits (I n₂) → Ahead (moveOf s) inp

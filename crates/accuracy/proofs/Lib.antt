@@ -1,4 +1,5 @@
 pub mod Instructions
+pub mod Filled
 pub mod Registers
 pub mod Passed
 pub mod Path

@@ -8,7 +8,9 @@ use mathlib.Core.Path.{_∙_, _≡_, ap, refl, sym}
 use Rattle.isa.proofs.Bools.{split}
 use Rattle.isa.proofs.Machine.{step, walk}
 use Rattle.isa.specs.Effect.{fall}
-use Rattle.isa.specs.Machine.{Arch, Program, destOf, effectAt, first, instructionAt, requestOf, rest, stepBy, valueAt}
+use Rattle.isa.specs.Inquiries.{fill}
+use Rattle.isa.specs.Machine.{Arch, Program, destOf, effectAt, first, instructionAt, openAt, requestOf, rest, stepBy}
+use Rattle.isa.specs.Machine.{valueAt}
 use Rattle.isa.specs.Operands.{okDest, operandsOf}
 use Rattle.isa.specs.Redirects.{isException, isTo, modeOr, targetOr}
 use Rattle.isa.specs.Registers.{isDest, isNamed, putReg, readReg, writeCpuid, writeReg}
@@ -20,11 +22,13 @@ use Rattle.latch.specs.Forwarding.{cpuidWord, fromMemWb}
 use Rattle.latch.specs.Memory.{destAfter, loads, memWbOf, passedOn, requests, stores, valueAfter, writesAfter}
 use Rattle.latch.specs.Retire.{retireCpuid, retireReg, retiredMode, retiredPc, retiredRegs}
 use Rattle.word.specs.Words.{bit}
-use Rattle.accuracy.proofs.Instructions.{Even, Plain, Stores, even, force-none, kind, load-plain, mode-stays}
+use Rattle.accuracy.proofs.Filled.{even-filled, fill-by, way-filled}
+use Rattle.accuracy.proofs.Instructions.{Even, Plain, Stores, force-none, kind, load-plain, mode-stays}
 use Rattle.accuracy.proofs.Instructions.{settle, slow-straight, store-plain, swap-kept, swap-new, turned}
 use Rattle.accuracy.proofs.Registers.{cpuZ-same, fwd-mw, putZ-same, xmRegs, zero-cpu}
 use Rattle.accuracy.specs.Count.{isRedirect, predictAt}
-use Rattle.accuracy.specs.Names.{Dest, Effect, ExMem, IdEx, IfId, MemWb, Mode, Next, NoDest, Redirect, Reg, To}
+use Rattle.accuracy.specs.Names.{Dest, Effect, ExMem, IdEx, IfId, MemWb, Mode, Next, NoDest, Of, Redirect, Reg}
+use Rattle.accuracy.specs.Names.{Special, To}
 
 unfoldable pub turnAt : Program → Arch → Redirect
 turnAt prog w = mispredict (isTo (predictAt prog w)) ((effectAt prog (instructionAt prog w) w) .redirect)
@@ -54,10 +58,26 @@ dxAt prog w rs = idExOf (isTo (predictAt prog w)) (instructionAt prog w) (w .pc)
 unfoldable pub effOf : Program → Arch → Effect
 effOf prog w = effectAt prog (instructionAt prog w) w
 
+-- the same with the special register that it asks for open
+unfoldable pub openOf : Program → Arch → Effect
+openOf prog w = openAt prog (instructionAt prog w) w
+
 -- what every instruction's tests say, of the instruction at w
 even-at : (prog : Program) (w : Arch) → Even (instructionAt prog w) (w .pc) (w .mode) (effOf prog w)
-unfolding effOf effectAt
-even-at prog w = even (prog .user) (instructionAt prog w) (w .pc) (w .mode) _ _
+unfolding effOf effectAt openAt
+even-at prog w = even-filled (prog .user) (instructionAt prog w) (w .pc) (w .mode) _ _ _
+
+-- its way does not hang on what is said
+pub way-at : (prog : Program) (w : Arch) → (effOf prog w) .redirect ≡ (openOf prog w) .redirect
+unfolding effOf openOf effectAt openAt
+way-at prog w = way-filled (prog .user) (instructionAt prog w) (w .pc) _ _ _
+
+-- its effect, where what is said is what the program says
+pub filled-at : (prog : Program) (w : Arch) (c : Special)
+    → ((n : ℕ) → (openOf prog w) .inquiry ≡ Of n → c ≡ prog .table n)
+    → fill c (openOf prog w) ≡ effOf prog w
+unfolding effOf openOf effectAt
+filled-at prog w c h = fill-by ((openOf prog w) .inquiry) (openOf prog w) (prog .table) c refl h
 
 unfoldable pub xmAt : Program → Arch → ExMem
 xmAt prog w = exMemOf (dxAt prog w []) (effOf prog w)
@@ -171,8 +191,8 @@ and-dest false d = refl
 wb-at : (prog : Program) (w : Arch) → (xmAt prog w) .writeback ≡ isNamed
     (destOf (effOf prog w) ((operandsOf (instructionAt prog w)) .dest))
 unfolding xmAt exMemOf dxAt idExOf idExBy instructionAt destOf
-wb-at prog w = force-none (instructionAt prog w) (w .pc) (w .mode) _ (even-at prog w) ∙ and-dest ((effOf prog w) .alu .writes)
-    ((operandsOf (instructionAt prog w)) .dest)
+wb-at prog w = force-none (instructionAt prog w) (w .pc) (w .mode) _ (even-at prog w)
+    ∙ and-dest ((effOf prog w) .alu .writes) ((operandsOf (instructionAt prog w)) .dest)
 
 commit-form : (load store : Bool) (d : Dest) (x y : ℕ) (rs : List ℕ) → getD rs 0 0 ≡ 0 →
     (store ≡ true → isNamed d ≡ false)
@@ -258,9 +278,10 @@ slow-turn prog w e = slow-straight (instructionAt prog w) (w .pc) (w .mode) _ (e
 pub next-guessed : (prog : Program) (w : Arch) → kind (instructionAt prog w) ≡ w .mode → turnAt prog w ≡ Next
     → ((step prog w) .pc ≡ targetOr (predictAt prog w) (fall (w .pc) (w .mode))) ×
     ((step prog w) .mode ≡ modeOr (predictAt prog w) (w .mode))
-unfolding turnAt predictAt step stepBy effectAt
-next-guessed prog w k e = settle (prog .user) (instructionAt prog w) (w .pc) (w .mode) _ _ (fall (w .pc) (w .mode))
-    k e
+unfolding turnAt predictAt step stepBy effOf openOf openAt
+next-guessed prog w k e = rw (way-at prog w)
+    (settle (prog .user) (instructionAt prog w) (w .pc) (w .mode) _ _ (fall (w .pc) (w .mode))
+    k (rw (way-at prog w) at e))
 
 pub next-turned : (prog : Program) (w : Arch) (q : ℕ) (n : Mode) → turnAt prog w ≡ To q n → (q ≡ (step prog w) .pc)
     × (n ≡ (step prog w) .mode)

@@ -10,12 +10,12 @@ use Rattle.isa.specs.Refusals.{isOf, rawCode}
 use Rattle.isa.specs.Short.{decodedOf}
 use Rattle.latch.specs.Retire.{halts}
 use Rattle.pipeline.specs.Advance.{advance, advanceBy, advanceStages, next}
-use Rattle.pipeline.specs.Ask.{fetchAt, wantFetch, wantLoad}
+use Rattle.pipeline.specs.Ask.{fetchAt, wantFetch, wantLoad, wantSpecial}
 use Rattle.pipeline.specs.Counting.{countRetired, counted, counterFull}
 use Rattle.pipeline.specs.Refusals.{andThen, faulty, outOfBounds, stateTests}
 use Rattle.pipeline.specs.Retire.{retire, retireStages}
-use Rattle.pipeline.specs.Tick.{fitsOffer, givenTests, isAnswer, moved, offerCode, rawOf, same, taken, tests, tick}
-use Rattle.pipeline.specs.Tick.{verdict, wordIn}
+use Rattle.pipeline.specs.Tick.{fitsOffer, fitsSpecial, givenTests, isAnswer, moved, offerCode, rawOf, same, taken}
+use Rattle.pipeline.specs.Tick.{tests, tick, verdict, wordIn}
 use Rattle.accuracy.proofs.Instructions.{okIn}
 use Rattle.accuracy.proofs.Passed.{Passed, passed}
 use Rattle.accuracy.specs.Accuracy.{wordList}
@@ -30,6 +30,7 @@ pub record Took (s : PipelineCpu) (t : Given) (s′ : PipelineCpu) : Type 0 wher
   pub fair : offerCode (t .offer) ≡ 0
   pub fetch : fitsOffer (wantFetch s) ((fetchAt s) .mode) (t .offer) ≡ true
   pub «is_load» : same (wantLoad (s .stages)) (isAnswer (t .answer)) ≡ true
+  pub special : fitsSpecial (wantSpecial s) (t .special) ≡ true
   pub is : next s (taken t) ≡ s′
 
 pub took : (s : PipelineCpu) (t : Given) (s′ : PipelineCpu) → tick s t ≡ moved s′ → Took s t s′
@@ -44,13 +45,15 @@ took s t s′ e =
       fair = let z = ltb-false 0 (offerCode (t .offer)) (p .1 .1 .1 .0) in omega arith;
       fetch = un-not _ (p .1 .1 .1 .1 .0);
       «is_load» = un-not _ (p .1 .1 .1 .1 .1 .0);
+      special = un-not _ (p .1 .1 .1 .1 .1 .1 .0);
       is = r .1;
     }
 
 -- a tick that no refusal holds of is accepted
 pub takes : (s : PipelineCpu) (t : Given) (s′ : PipelineCpu) → Took s t s′ → tick s t ≡ moved s′
 unfolding tick tests stateTests andThen givenTests verdict
-takes s t s′ k = rw (k .bounds, k .sound, k .room, k .fair, k .fetch, k .«is_load») (ap moved (k .is))
+takes s t s′ k =
+    rw (k .bounds, k .sound, k .room, k .fair, k .fetch, k .«is_load», k .special) (ap moved (k .is))
 
 -- an offer or an answer that is there
 pub offer-is : (o : Offer) (b : Bool) (m : Mode) → fitsOffer b m o ≡ true → b ≡ true → o ≡ Instr (rawOf o)
@@ -64,7 +67,7 @@ pub offer-ok : (o : Offer) (b : Bool) (m : Mode) → fitsOffer b m o ≡ true �
 unfolding fitsOffer isOf offerCode rawCode rawOf okIn decodedOf
 offer-ok Nothing true m e z h = cc
 offer-ok Nothing false m e z h = cc
-offer-ok (Instr (RawNormal i)) true Normal e z h = no-code i h .0
+offer-ok (Instr (RawNormal i)) true Normal e z h = no-code i h
 offer-ok (Instr (RawNormal i)) true Short e z h = cc
 offer-ok (Instr (RawShort i)) true Normal e z h = cc
 offer-ok (Instr (RawShort i)) true Short e z h = refl

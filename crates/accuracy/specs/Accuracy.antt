@@ -7,12 +7,13 @@ use mathlib.Core.List.{List, [], _++_, _∷_}
 use mathlib.Core.Path.{_≡_}
 use Rattle.isa.specs.Machine.{Arch, Program, archWith, machine, wholeProgram}
 use Rattle.isa.specs.Short.{decodedOf}
-use Rattle.pipeline.specs.Ask.{asks, fetchAt}
+use Rattle.pipeline.specs.Ask.{asks, fetchAt, wantSpecial}
 use Rattle.pipeline.specs.Start.{fresh}
 use Rattle.pipeline.specs.Tick.{Result, moved, refused, tick}
 use Rattle.accuracy.specs.Count.{path, retireTick}
-use Rattle.accuracy.specs.Names.{Answer, DecNormal, Decoded, Given, Instr, Mode, NoAnswer, Nop, Normal, Nothing}
-use Rattle.accuracy.specs.Names.{Offer, PipelineCpu, Place, Request, Short, Start, Word}
+use Rattle.accuracy.specs.Names.{Answer, DecNormal, Decoded, Given, Inquiry, Instr, Mode, NoAnswer, NoInquiry}
+use Rattle.accuracy.specs.Names.{NoSuch, Nop, Normal, Nothing, Of, Offer, PipelineCpu, Place, Request, Short}
+use Rattle.accuracy.specs.Names.{Special, Start, Word}
 
 -- a list of ticks so far: the state handed back, the accepted ticks, the requests asked for in them
 pub record Run : Type 0 where
@@ -72,6 +73,26 @@ unfoldable pub firstOffer : List (Place × Decoded) → ℕ → Mode → Decoded
 firstOffer [] p m = DecNormal Nop
 firstOffer (x ∷ l) p m = cond (eqb p (x .0 .pc) && sameMode m (x .0 .mode)) (x .1) (firstOffer l p m)
 
+-- what was said of special registers in accepted ticks, each with the number that was asked for
+unfoldable pub saidBy : Result → Inquiry → Special → List (ℕ × Special) → List (ℕ × Special)
+saidBy (refused c) q x l = l
+saidBy (moved s) NoInquiry x l = l
+saidBy (moved s) (Of n) x l = (n, x) ∷ l
+
+unfoldable pub said : Run → List Given → List (ℕ × Special)
+said r [] = []
+said r (t ∷ ts) = saidBy (tick (r .state) t) (wantSpecial (r .state)) (t .special) (said (one r t) ts)
+
+-- each of it is what table g says of its number
+unfoldable pub AgreeSaid : (ℕ → Special) → List (ℕ × Special) → Type 0
+AgreeSaid g [] = Unit {0}
+AgreeSaid g (x ∷ l) = (g (x .0) ≡ x .1) × AgreeSaid g l
+
+-- the first of it for number n, or no such register
+unfoldable pub firstSaid : List (ℕ × Special) → ℕ → Special
+firstSaid [] n = NoSuch
+firstSaid (x ∷ l) n = cond (eqb n (x .0)) (x .1) (firstSaid l n)
+
 -- the run before its first tick
 unfoldable pub begin : Start → Run
 begin v = record { state = fresh v; accepted = 0; requests = [] }
@@ -94,21 +115,24 @@ pub record Retires (prog : Program) (w : Arch) (r : Run) (ts : List Given) (N : 
   pub place : ((one (after r pre) here) .state .stages .«retire_at» .pc ≡ (machine prog w N) .arch .pc)
       × ((one (after r pre) here) .state .stages .«retire_at» .mode ≡ (machine prog w N) .arch .mode)
 
--- RULES 15.6: where an address and mode always offer accepted ticks the same instruction, the one offered first
+-- RULES 15.6: where an address and mode always offer accepted ticks the same instruction, the one offered first, and of
+-- each special register the same is always said, what was said first
 abbrev pub Demand3 : Type 0
 Demand3 =
     (v : Start) (ts : List Given) → length (v .reg) ≡ 32
     → let r = begin v in
     let f = firstOffer (offered r ts) in
-    Agree f (offered r ts)
+    let told = firstSaid (said r ts) in
+    Agree f (offered r ts) → AgreeSaid told (said r ts)
     → (N : ℕ) → 1 ≤ N → N ≤ (after r ts) .state .counts .«instructions_executed»
-    → Retires (wholeProgram v f) (archWith v (answers r ts)) r ts N
+    → Retires (wholeProgram v f told) (archWith v (answers r ts)) r ts N
 
--- the same for any instructions that the accepted offers agree with, whatever stands where none was offered
+-- the same for any instructions that the accepted offers agree with, whatever stands where none was offered, and for
+-- any table that what was said agrees with
 abbrev pub Demand3For : Type 0
 Demand3For =
-    (f : ℕ → Mode → Decoded) (v : Start) (ts : List Given) → length (v .reg) ≡ 32
+    (f : ℕ → Mode → Decoded) (g : ℕ → Special) (v : Start) (ts : List Given) → length (v .reg) ≡ 32
     → let r = begin v in
-    Agree f (offered r ts)
+    Agree f (offered r ts) → AgreeSaid g (said r ts)
     → (N : ℕ) → 1 ≤ N → N ≤ (after r ts) .state .counts .«instructions_executed»
-    → Retires (wholeProgram v f) (archWith v (answers r ts)) r ts N
+    → Retires (wholeProgram v f g) (archWith v (answers r ts)) r ts N

@@ -3,15 +3,16 @@ use Prim.Native.Nat.{ℕ}
 use mathlib.Core.Bool.{Bool, false, true}
 use mathlib.Core.List.{List, [], _++_, _∷_}
 use mathlib.Core.Path.{_≡_}
+use Rattle.isa.specs.Inquiries.{isInquiry, isSaid}
 use Rattle.isa.specs.Machine.{Source}
 use Rattle.isa.specs.Short.{decodedOf}
 use Rattle.pipeline.specs.Advance.{next}
 use Rattle.pipeline.specs.Ask.{ask}
 use Rattle.pipeline.specs.Tick.{fitsOffer, isAnswer, moved, offerCode, refused, taken, tick}
 use Rattle.pipeline.specs.Turn.{reply}
-use Rattle.accuracy.specs.Accuracy.{Run, offered, one}
+use Rattle.accuracy.specs.Accuracy.{Run, offered, one, said}
 use Rattle.accuracy.specs.Names.{Fetch, From, Given, Instr, Load, Mode, NoFetch, NoRequest, Normal, NotAsked}
-use Rattle.accuracy.specs.Names.{Offer, PipelineCpu, RawInstr, Request, Store, Wanted, Wants}
+use Rattle.accuracy.specs.Names.{Of, Offer, PipelineCpu, RawInstr, Request, Store, Wanted, Wants}
 
 -- an instruction of the mode that is wanted, or Nothing where no fetch is
 unfoldable pub fitsFetch : Fetch → Offer → Bool
@@ -29,11 +30,13 @@ listed NoRequest = []
 listed (Load a w) = Load a w ∷ []
 listed (Store a w v) = Store a w v ∷ []
 
--- a tick with the offer that is wanted, which 1 and 2 do not refuse, and an answer exactly where a load is wanted
+-- a tick with the offer that is wanted, which 1 does not refuse, an answer exactly where a load is wanted, and something
+-- said exactly where a special register is asked for
 pub record Gives (w : Wanted) (t : Given) : Type 0 where
   pub offer : fitsFetch (w .fetch) (t .offer) ≡ true
   pub code : offerCode (t .offer) ≡ 0
   pub answer : isAnswer (t .answer) ≡ isLoad (w .request)
+  pub special : isSaid (t .special) ≡ isInquiry (w .special)
 
 pub record Asking : Type 0 where
   -- what is wanted can be given
@@ -46,6 +49,9 @@ pub record Asking : Type 0 where
   pub offers : (r : Run) (w : Wanted) (t : Given) (ts : List Given) (p : ℕ) (m : Mode) (i : RawInstr)
       → ask (r .state) ≡ Wants w → Gives w t → w .fetch ≡ From p m → t .offer ≡ Instr i
       → offered r (t ∷ ts) ≡ (record { pc = p; mode = m }, decodedOf i) ∷ offered (one r t) ts
+  -- what is said counts for the special register that is asked for
+  pub says : (r : Run) (w : Wanted) (t : Given) (ts : List Given) (n : ℕ) → ask (r .state) ≡ Wants w → Gives w t
+      → w .special ≡ Of n → said r (t ∷ ts) ≡ (n, t .special) ∷ said (one r t) ts
   -- a list's requests grow by the one that is wanted
   pub requests : (r : Run) (w : Wanted) (t : Given) → ask (r .state) ≡ Wants w → Gives w t
       → (one r t) .requests ≡ r .requests ++ listed (w .request)

@@ -1,8 +1,9 @@
 -- Read this first: what is claimed of the pipeline, and the definitions that it rests on, in the order of RULES.
 -- word: Words. isa: Short (short decode), Operands, Effect (execute), Waits (MUL to MOD, used loads, prediction),
--- Registers, Redirects, Refusals (1, 2), Machine (the one-at-a-time machine). latch: Latches, Decode, Forwarding,
--- Execute, Memory, Retire, Bounds (refusal 11 of each latch). pipeline: Forwarding, Execute, Counting, Retire, Move,
--- Fetch, Advance (the tick's moves), Start, Refusals (11, 12, 13), Ask (asking), Tick (3, 4), Turn (a source's tick).
+-- Registers, Redirects, Refusals (1), Inquiries (special registers), Machine (the one-at-a-time machine). latch:
+-- Latches, Decode, Forwarding, Execute, Memory, Retire, Bounds (refusal 11 of each latch). pipeline: Forwarding,
+-- Execute, Counting, Retire, Move, Fetch, Advance (the tick's moves), Start, Refusals (11, 12, 13), Ask (asking),
+-- Tick (3, 4, 10), Turn (a source's tick).
 -- Here: Count (M, D, L, R, the formula), Accuracy (RULES 15.6), Asking, Example.
 use Prim.Native.Nat.{suc, ℕ}
 use lib.ListN.{length}
@@ -19,10 +20,11 @@ use Rattle.pipeline.specs.Forwarding.{forwarded}
 use Rattle.pipeline.specs.Refusals.{outOfBounds}
 use Rattle.pipeline.specs.Start.{fresh}
 use Rattle.pipeline.specs.Tick.{moved, tick, ticked}
-use Rattle.accuracy.specs.Accuracy.{Agree, Demand3, Demand3For, Retires, Run, after, firstOffer, offered, one}
+use Rattle.accuracy.specs.Accuracy.{Agree, AgreeSaid, Demand3, Demand3For, Retires, Run, after, firstOffer}
+use Rattle.accuracy.specs.Accuracy.{firstSaid, offered, one, said}
 use Rattle.accuracy.specs.Asking.{Asking, replies}
 use Rattle.accuracy.specs.Example.{Example}
-use Rattle.accuracy.specs.Names.{Decoded, Given, Mode, PipelineCpu, Place, Refused, Stages, Start}
+use Rattle.accuracy.specs.Names.{Decoded, Given, Mode, PipelineCpu, Place, Refused, Special, Stages, Start}
 
 -- Everything claimed; proved in proofs/Claims.antt.
 pub record Claims : Type 0 where
@@ -36,11 +38,13 @@ pub record Claims : Type 0 where
   -- Its number is the tick counter.
   pub numbered : (r : Run) (ts : List Given) → r .accepted ≡ r .state .counts .cycles
       → (after r ts) .accepted ≡ (after r ts) .state .counts .cycles
-  -- The premise, RULES 15.4, holds wherever the offers agree with any instructions, as those of one who answers what
-  -- is asked from a fixed source do.
+  -- The premise, RULES 15.4, holds wherever the offers agree with any instructions and what was said with any table, as
+  -- those of one who answers what is asked from a fixed source do.
   pub premise : (f : ℕ → Mode → Decoded) (l : List (Place × Decoded)) → Agree f l → Agree (firstOffer l) l
+  pub premiseSaid : (g : ℕ → Special) (l : List (ℕ × Special)) → AgreeSaid g l → AgreeSaid (firstSaid l) l
   pub answered : (src : Source) (vs : List ℕ) (r : Run)
       → Agree (λ p m. decodedOf (src .raw p m)) (offered r (replies src vs r))
+  pub answeredSaid : (src : Source) (vs : List ℕ) (r : Run) → AgreeSaid (src .table) (said r (replies src vs r))
   -- What a list hands on is the state that the tick hands back, and a refused tick hands back the very state.
   pub handsOn : (r : Run) (t : Given) → (one r t) .state ≡ (ticked (r .state) t) .state
   pub handsBack : (s : PipelineCpu) (t : Given) (n : ℕ) → (ticked s t) .outcome ≡ Refused n → (ticked s t) .state ≡ s

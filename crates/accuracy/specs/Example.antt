@@ -8,13 +8,14 @@ use Rattle.isa.specs.Machine.{Program, Source, archWith, programOf, zeroStart}
 use Rattle.accuracy.specs.Accuracy.{Run, after, begin}
 use Rattle.accuracy.specs.Asking.{replies}
 use Rattle.accuracy.specs.Count.{path, retireTick}
-use Rattle.accuracy.specs.Names.{Div, Given, Halt, Jmp, Ld, NoAnswer, Nothing, RawNormal}
-use Rattle.accuracy.specs.Names.{Unknown}
+use Rattle.accuracy.specs.Names.{Div, Given, Halt, Jmp, Ld, NoAnswer, NoSuch, Nothing, RawNormal, Unknown}
+use Rattle.accuracy.specs.Names.{Unsaid}
 
 -- LD R1,R0+8; DIV R2,R1,R1; JMP 0; HALT at addresses 0, 4, 8, 12
 unfoldable pub source : Source
 source = record {
   raw = λ p m. RawNormal (getD (Ld 1 0 (pos 8) ∷ Div 2 1 1 ∷ Jmp (pos 0) ∷ Halt ∷ []) (p / 4) (Unknown 0 0));
+  table = λ n. NoSuch;
 }
 
 unfoldable pub program : Program
@@ -25,7 +26,7 @@ start = begin zeroStart
 
 -- a tick that is refused, then as many as are asked for, each with answer 9
 unfoldable pub ticks : List Given
-ticks = record { offer = Nothing; answer = NoAnswer } ∷ replies source (replicate 26 9) start
+ticks = record { offer = Nothing; answer = NoAnswer; special = Unsaid } ∷ replies source (replicate 26 9) start
 
 -- the tick of the n-th retirement, by the formula alone
 unfoldable pub due : ℕ → ℕ

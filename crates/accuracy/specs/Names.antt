@@ -25,6 +25,10 @@ pub use Rattle.isa.specs.declared.NewMode.{NewMode}
 pub use Rattle.isa.specs.declared.NewMode.the-variants.{Keep, To as ToMode}
 pub use Rattle.isa.specs.declared.Request.{Request}
 pub use Rattle.isa.specs.declared.Request.the-variants.{None as NoRequest, Load, Store}
+pub use Rattle.isa.specs.declared.Inquiry.{Inquiry}
+pub use Rattle.isa.specs.declared.Inquiry.the-variants.{None as NoInquiry, Of}
+pub use Rattle.isa.specs.declared.Special.{Special}
+pub use Rattle.isa.specs.declared.Special.the-variants.{None as Unsaid, NoSuch, Word as SpecialWord}
 pub use Rattle.isa.specs.declared.Operands.{Operands}
 pub use Rattle.isa.specs.declared.Effect.{Effect}
 pub use Rattle.latch.specs.declared.IfId.{IfId}

@@ -35,14 +35,14 @@ unrefused : (sheet : List ℕ) (n : ℕ) → sheetCode sheet ≡ 0 → n ≤ 100
 unfolding limitedCode
 unrefused sheet n a b = rw (a, le-ltb 1000000 n b)
 
-played-is : (v : Start) (sheet l : List ℕ) (n : ℕ) → limitedCode sheet n ≡ 0
-    → played v sheet l n ≡ reported v (player.play (programOf (sheetSource sheet) v) n false (archWith v l))
+played-is : (v : Start) (sheet l table : List ℕ) (n : ℕ) → limitedCode sheet n ≡ 0
+    → played v sheet l table n ≡ reported v (player.play (programOf (sheetSource sheet table) v) n false (archWith v l))
 unfolding played unrefusedPlay
-played-is v sheet l n e = rw e
+played-is v sheet l table n e = rw e
 
-module _ (sheet : List ℕ) (v : Start) (len : length (v .reg) ≡ 32) (l : List ℕ) where
+module _ (sheet table : List ℕ) (v : Start) (len : length (v .reg) ≡ 32) (l : List ℕ) where
   abbrev G : Program
-  G = programOf (sheetSource sheet) v
+  G = programOf (sheetSource sheet table) v
 
   abbrev W : Arch
   W = archWith v l
@@ -65,11 +65,12 @@ module _ (sheet : List ℕ) (v : Start) (len : length (v .reg) ≡ 32) (l : List
       (live-stands G W wide nought (begin v) 0 l 0 0 0 s (omega arith)) off fe
 
   -- after the first of a run's ticks
-  part-stands : (limit : ℕ) (pre post : List Given) → (play (sheetSource sheet) limit l (fresh v)) .ticks ≡ pre ++ post
+  part-stands : (limit : ℕ) (pre post : List Given)
+      → (play (sheetSource sheet table) limit l (fresh v)) .ticks ≡ pre ++ post
       → (k : ℕ) × Stands G W wide nought (after (begin v) pre) k
   unfolding begin
   part-stands limit pre post e =
-      let f = follows (sheetSource sheet) v limit l (begin v) in
+      let f = follows (sheetSource sheet table) v limit l (begin v) in
       list-stands pre
       (meet-part G pre post (begin v) (subst (λ (ts : List Given). AllMeet G (begin v) ts) e (f .offers)))
       (fed-part G pre post (begin v) l (subst (λ (ts : List Given). Fed G (begin v) l ts) e (f .fed)))
@@ -106,10 +107,10 @@ module _ (sheet : List ℕ) (v : Start) (len : length (v .reg) ≡ 32) (l : List
   -- a play and a list of ticks that stand at the same machine
   same-by : (n k : ℕ) (r : Run) → Stands G W wide nought r k → limitedCode sheet n ≡ 0
       → (player.play G n false W) .arch ≡ (machine G W k) .arch → length ((player.play G n false W) .did) ≡ k
-      → Same (played v sheet l n) (r .state)
+      → Same (played v sheet l table n) (r .state)
   unfolding reported valuesOf
   same-by n k r h e a d =
-      let q = played-is v sheet l n e in
+      let q = played-is v sheet l table n e in
       record {
         done = ap (λ (p : Played). p .done) q ∙ d ∙ sym (h .count);
         reg = ap (λ (p : Played). p .values .reg) q ∙ ap (λ (w : Arch). w .reg) a ∙ sym (h .reg);
@@ -119,49 +120,49 @@ module _ (sheet : List ℕ) (v : Start) (len : length (v .reg) ≡ 32) (l : List
 
   -- the ticks accepted among the first of a run's
   part-within : (limit : ℕ) (pre post : List Given)
-      → (play (sheetSource sheet) limit l (fresh v)) .ticks ≡ pre ++ post → (after (begin v) pre) .accepted ≤ limit
+      → (play (sheetSource sheet table) limit l (fresh v)) .ticks ≡ pre ++ post → (after (begin v) pre) .accepted ≤ limit
   unfolding begin
   part-within limit pre post e =
       let a = accepted-le pre (begin v) in
       let b = part-length pre post in
       let c = ap (λ (ts : List Given). length ts) e in
-      let d = (run-ticks (sheetSource sheet) limit l (begin v)) .within in
+      let d = (run-ticks (sheetSource sheet table) limit l (begin v)) .within in
       omega arith
 
   -- the play with as many instructions allowed as are retired after a list of ticks
   as-far : (ts : List Given) → (x : (k : ℕ) × Stands G W wide nought (after (begin v) ts) k) → sheetCode sheet ≡ 0
       → x .0 ≤ 1000000
       → let s = (after (begin v) ts) .state in
-      Same (played v sheet l (s .counts .«instructions_executed»)) s
+      Same (played v sheet l table (s .counts .«instructions_executed»)) s
   as-far ts x e b =
       let h = x .1 in
       let y = limit-steps (x .0) (h .did) in
-      subst (λ (k : ℕ). Same (played v sheet l k) ((after (begin v) ts) .state)) (sym (h .count))
+      subst (λ (k : ℕ). Same (played v sheet l table k) ((after (begin v) ts) .state)) (sym (h .count))
       (same-by (x .0) (x .0) (after (begin v) ts) h (unrefused sheet (x .0) e b) (y .0) (y .1))
 
 pub every-tick : EveryTick
-every-tick sheet v len limit l e pre post q =
-    let x = part-stands sheet v len l limit pre post q in
-    let a = part-within sheet v len l limit pre post q in
+every-tick sheet table v len limit l e pre post q =
+    let x = part-stands sheet table v len l limit pre post q in
+    let a = part-within sheet table v len l limit pre post q in
     let b = x .1 .within in
     let c = limited sheet limit e in
     let d = c .1 in
-    as-far sheet v len l pre x (c .0) (omega arith)
+    as-far sheet table v len l pre x (c .0) (omega arith)
 
 pub every-list : EveryList
 unfolding programOf
-every-list sheet e v len ts a b l =
+every-list sheet table e v len ts a d b l =
     let m = answers (begin v) ts ++ l in
-    let g = programOf (sheetSource sheet) v in
-    let x = list-stands sheet v len m ts (all-meet g ts (begin v) a) (fed-whole g (λ w y. refl) ts (begin v) l) in
+    let g = programOf (sheetSource sheet table) v in
+    let x = list-stands sheet table v len m ts (all-meet g ts (begin v) a d) (fed-whole g (λ w y. refl) ts (begin v) l) in
     let c = x .1 .count in
-    as-far sheet v len m ts x e (omega arith)
+    as-far sheet table v len m ts x e (omega arith)
 
 pub every-n : EveryN
 unfolding begin fresh after
-every-n sheet v len limit l zero b = record { pre = []; post = _; split = refl; retired = refl }
-every-n sheet v len limit l (suc N) b =
-    let x = run-retires (sheetSource sheet) v len limit l (suc N) (omega arith) b in
+every-n sheet table v len limit l zero b = record { pre = []; post = _; split = refl; retired = refl }
+every-n sheet table v len limit l (suc N) b =
+    let x = run-retires (sheetSource sheet table) v len limit l (suc N) (omega arith) b in
     record {
       pre = x .pre ++ x .here ∷ [];
       post = x .post;
@@ -177,58 +178,59 @@ limit-of s sheet limit e = split (ltb 0 (limitedCode sheet limit))
     (λ a. omega (arith, ltb-false 0 (limitedCode sheet limit) a))
 
 -- a run that halts was not refused
-unrefused-run : (s : PipelineCpu) (sheet l : List ℕ) (limit : ℕ) → (ran s sheet l limit) .end ≡ Halted
-    → (limitedCode sheet limit ≡ 0) × (ran s sheet l limit ≡ runs.reported (play (sheetSource sheet) limit l s))
+unrefused-run : (s : PipelineCpu) (sheet l table : List ℕ) (limit : ℕ) → (ran s sheet l table limit) .end ≡ Halted
+    → (limitedCode sheet limit ≡ 0)
+    × (ran s sheet l table limit ≡ runs.reported (play (sheetSource sheet table) limit l s))
 unfolding ran refusedRun runCode
-unrefused-run s sheet l limit = split (ltb 0 (runCode s sheet limit))
+unrefused-run s sheet l table limit = split (ltb 0 (runCode s sheet limit))
     (λ a. rw a (λ e. absurd (let z : _≡_ {A = ℕ} 0 1 = cc in omega arith)))
     (λ a. rw a (λ e. (limit-of s sheet limit (omega (arith, ltb-false 0 (runCode s sheet limit) a)), refl)))
 
 pub halted-run : HaltedRun
 unfolding runs.reported reported begin
-halted-run sheet v len limit l e n b c =
-    let r = ran (fresh v) sheet l limit in
-    let p = play (sheetSource sheet) limit l (fresh v) in
-    let u = unrefused-run (fresh v) sheet l limit e in
-    let g = sheet-halted sheet v len limit l e in
-    let x = part-stands sheet v len l limit (p .ticks) [] (sym (append-nil (p .ticks))) in
+halted-run sheet table v len limit l e n b c =
+    let r = ran (fresh v) sheet l table limit in
+    let p = play (sheetSource sheet table) limit l (fresh v) in
+    let u = unrefused-run (fresh v) sheet l table limit e in
+    let g = sheet-halted sheet table v len limit l e in
+    let x = part-stands sheet table v len l limit (p .ticks) [] (sym (append-nil (p .ticks))) in
     let k = x .0 in
     let h = x .1 in
     let q : r .state ≡ (after (begin v) (p .ticks)) .state =
-    ap (λ (z : Ran). z .state) (u .1) ∙ (run-ticks (sheetSource sheet) limit l (begin v)) .state in
+    ap (λ (z : Ran). z .state) (u .1) ∙ (run-ticks (sheetSource sheet table) limit l (begin v)) .state in
     let z : r .state .counts .«instructions_executed» ≡ k =
     ap (λ (s : PipelineCpu). s .counts .«instructions_executed») q ∙ h .count in
-    let f = subst (λ (i : ℕ). (machine (G sheet v len l) (W sheet v len l) i) .runs ≡ false) z (g .halts) in
-    let y = halts-steps sheet v len l k n (h .did) f (omega arith) in
+    let f = subst (λ (i : ℕ). (machine (G sheet table v len l) (W sheet table v len l) i) .runs ≡ false) z (g .halts) in
+    let y = halts-steps sheet table v len l k n (h .did) f (omega arith) in
     let a = limited sheet limit (u .0) in
-    let w = played-is v sheet l n (unrefused sheet n (a .0) c) in (
+    let w = played-is v sheet l table n (unrefused sheet n (a .0) c) in (
       ap (λ (i : Played). i .end) w ∙ y .0,
-      subst (λ (s : PipelineCpu). Same (played v sheet l n) s) (sym q)
-          (same-by sheet v len l n k (after (begin v) (p .ticks)) h (unrefused sheet n (a .0) c) (y .1) (y .2)),
+      subst (λ (s : PipelineCpu). Same (played v sheet l table n) s) (sym q)
+          (same-by sheet table v len l n k (after (begin v) (p .ticks)) h (unrefused sheet n (a .0) c) (y .1) (y .2)),
     )
 
 -- a play that halts was not refused
-unrefused-play : (v : Start) (sheet l : List ℕ) (n : ℕ) → (played v sheet l n) .end ≡ PlayHalted
+unrefused-play : (v : Start) (sheet l table : List ℕ) (n : ℕ) → (played v sheet l table n) .end ≡ PlayHalted
     → limitedCode sheet n ≡ 0
 unfolding played refusedPlay
-unrefused-play v sheet l n = split (ltb 0 (limitedCode sheet n))
+unrefused-play v sheet l table n = split (ltb 0 (limitedCode sheet n))
     (λ a. rw a (λ e. absurd (let z : _≡_ {A = ℕ} 0 1 = cc in omega arith)))
     (λ a. rw a (λ e. omega (arith, ltb-false 0 (limitedCode sheet n) a)))
 
 pub halted-play : HaltedPlay
 unfolding reported
-halted-play sheet v len n l e limit b t =
-    let u = unrefused-play v sheet l n e in
+halted-play sheet table v len n l e limit b t =
+    let u = unrefused-play v sheet l table n e in
     let a = limited sheet n u in
-    let g = programOf (sheetSource sheet) v in
+    let g = programOf (sheetSource sheet table) v in
     let w = archWith v l in
-    let q = played-is v sheet l n u in
+    let q = played-is v sheet l table n u in
     let h = play-is g w n in
     let N = length ((player.play g n false w) .did) in
-    let d : (played v sheet l n) .done ≡ N = ap (λ (p : Played). p .done) q in
+    let d : (played v sheet l table n) .done ≡ N = ap (λ (p : Played). p .done) q in
     let f = h .halted (sym (ap (λ (p : Played). p .end) q) ∙ e) in
     let k = subst (λ (i : ℕ). retireTick g (λ j. path g w j) i ≤ limit) d t in
-    let x = sheet-halts sheet (a .0) v len limit l b N (h .did) f k in
+    let x = sheet-halts sheet table (a .0) v len limit l b N (h .did) f k in
     let i = h .within in
     let j = x .1 in
-    (x .0, (halted-run sheet v len limit l (x .0) n (omega arith) (a .1)) .1)
+    (x .0, (halted-run sheet table v len limit l (x .0) n (omega arith) (a .1)) .1)

@@ -12,6 +12,7 @@ use crate::read_instruction::decoded;
 use crate::read_latch::id_ex;
 use crate::read_latch::if_id;
 use crate::read_state::given;
+use crate::read_state::special;
 use crate::read_state::started;
 use crate::read_state::state;
 use crate::write_latch::set_ex_mem;
@@ -51,7 +52,7 @@ fn tick(n: &mut [u32; 192]) -> Reply {
 fn ask(n: &mut [u32; 192]) -> Reply {
     let a = asked(n);
     set_asked(n, a);
-    Reply::Numbers(0, 8)
+    Reply::Numbers(0, 10)
 }
 
 fn put_forwarded(n: &mut [u32; 192], f: Forwarded) -> Reply {
@@ -83,7 +84,7 @@ fn put_executed(n: &mut [u32; 192], e: Executed) -> Reply {
 }
 
 fn execute(n: &mut [u32; 192]) -> Reply {
-    let e = state(n).execute_ex(id_ex(n, 121));
+    let e = state(n).execute_ex(id_ex(n, 121), special(n, 139));
     put_executed(n, e)
 }
 
@@ -166,20 +167,20 @@ pub fn length_of(kind: u32) -> usize {
         0x1 => 4,
         0x2 | 0x4 => 2,
         0x3 => 5,
-        0x5 => 128,
+        0x5 => 130,
         0x6 | 0xD => 121,
         0x7 => 122,
-        0x8 => 139,
+        0x8 => 141,
         0x9 => 129,
         0xA => 9,
         0xB => 6,
         0xC => 21,
         0xE | 0xF => 37,
-        0x10 => 8,
+        0x10 => 10,
         0x11 => 1,
-        0x12 | 0x13 => 66,
-        0x14 | 0x16 => 124,
-        0x15 => 40,
+        0x12 | 0x13 | 0x17 => 66,
+        0x14 | 0x16 => 125,
+        0x15 => 41,
         _ => 0,
     }
 }

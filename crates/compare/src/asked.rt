@@ -1,6 +1,7 @@
 // The requests of a run's ticks, by asking before each: how many, and a hash of them in order.
 use crate::machine;
 use crate::machine::asked;
+use isa::Inquiry;
 use isa::Request;
 use pipeline::Answer;
 use pipeline::Asked;
@@ -9,6 +10,7 @@ use pipeline::Given;
 use pipeline::Offer;
 use pipeline::Wanted;
 use sheet::offer::offer_at;
+use sheet::specials::special_at;
 
 pub struct Requests {
     pub count: u32,
@@ -72,18 +74,21 @@ fn wanted(a: Asked) -> Wanted {
         Asked::Refused(_) => Wanted {
             fetch: Fetch::None,
             request: Request::None,
+            special: Inquiry::None,
         },
         Asked::Wants(w) => w,
     }
 }
 
 // What a tick that wants this is given.
-fn given(w: Wanted, sheet: &[u8], answers: &[u32], used: usize) -> Given {
+fn given(w: Wanted, sheet: &[u8], answers: &[u32], used: usize, table: &[u32]) -> Given {
     let fetch = w.fetch;
     let request = w.request;
+    let inquiry = w.special;
     Given {
         offer: offered(sheet, fetch),
         answer: answered(answers, used, loads(request)),
+        special: special_at(table, inquiry),
     }
 }
 
@@ -95,7 +100,13 @@ fn more(on: bool, k: usize) -> usize {
 }
 
 // The requests of so many ticks from the state of a line.
-pub fn requests_of(from: &[u32; 192], sheet: &[u8], answers: &[u32], ticks: u32) -> Requests {
+pub fn requests_of(
+    from: &[u32; 192],
+    sheet: &[u8],
+    answers: &[u32],
+    table: &[u32],
+    ticks: u32,
+) -> Requests {
     let mut at = *from;
     let mut seen = Requests::none();
     let mut used: usize = 0;
@@ -103,7 +114,7 @@ pub fn requests_of(from: &[u32; 192], sheet: &[u8], answers: &[u32], ticks: u32)
     while left > 0 {
         let w = wanted(asked(&at));
         let request = w.request;
-        machine::tick(&mut at, given(w, sheet, answers, used));
+        machine::tick(&mut at, given(w, sheet, answers, used, table));
         seen = seen.behind(request);
         used = more(loads(request), used);
         left -= 1;

@@ -1,4 +1,5 @@
-// The sheet and the load answers that are held from line to line. A line puts 64 numbers behind a place.
+// The sheet, the load answers and the special registers that are held from line to line. A line puts 64 numbers behind a
+// place.
 use crate::answer::Reply;
 use crate::place::num;
 
@@ -35,17 +36,18 @@ pub fn put_sheet(sheet: &mut [u8; 20736], n: &[u32; 192]) -> Reply {
     Reply::Silent
 }
 
-fn put_answer(answers: &mut [u32; 4096], at: usize, w: u32) {
-    if at < 4096 {
-        answers[at] = w;
+fn put_number(words: &mut [u32], at: usize, w: u32) {
+    if at < words.len() {
+        words[at] = w;
     }
 }
 
-pub fn put_answers(answers: &mut [u32; 4096], n: &[u32; 192]) -> Reply {
+// Load answers, or the words of special registers.
+pub fn put_words(words: &mut [u32], n: &[u32; 192]) -> Reply {
     let mut at = num(n, 1, 0) as usize;
     let mut i: usize = 2;
     while i < 66 {
-        put_answer(answers, at, n[i]);
+        put_number(words, at, n[i]);
         at = std::num::wrapping_add_usize(at, 1);
         i += 1;
     }

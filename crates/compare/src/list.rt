@@ -2,8 +2,8 @@
 use crate::answer::Reply;
 use crate::answer::answer;
 use crate::answer::length_of;
-use crate::held::put_answers;
 use crate::held::put_sheet;
+use crate::held::put_words;
 use crate::input::Input;
 use crate::machine;
 use crate::machine::asked;
@@ -21,7 +21,7 @@ fn tick(held: &mut [u32; 192], n: &mut [u32; 192]) -> Reply {
     let g = given(n, 1);
     set_asked(n, asked(held));
     n[0] = machine::tick(held, g);
-    Reply::Numbers(0, 8)
+    Reply::Numbers(0, 10)
 }
 
 fn show(held: &[u32; 192], n: &mut [u32; 192]) -> Reply {
@@ -34,15 +34,17 @@ fn known(
     n: &mut [u32; 192],
     sheet: &mut [u8; 20736],
     answers: &mut [u32; 4096],
+    table: &mut [u32; 65600],
 ) -> Reply {
     match n[0] {
         0xF => begin(held, n),
         0x10 => tick(held, n),
         0x11 => show(held, n),
         0x12 => put_sheet(sheet, n),
-        0x13 => put_answers(answers, n),
-        0x14 | 0x16 => run(n, sheet, answers, 122),
-        0x15 => run(n, sheet, answers, 38),
+        0x13 => put_words(answers, n),
+        0x14 | 0x16 => run(n, sheet, answers, table, 122),
+        0x15 => run(n, sheet, answers, table, 38),
+        0x17 => put_words(table, n),
         _ => answer(n),
     }
 }
@@ -54,9 +56,10 @@ pub fn answered(
     n: &mut [u32; 192],
     sheet: &mut [u8; 20736],
     answers: &mut [u32; 4096],
+    table: &mut [u32; 65600],
 ) -> Reply {
     if i.whole & !i.malformed & (i.count == length_of(n[0])) {
-        return known(held, n, sheet, answers);
+        return known(held, n, sheet, answers, table);
     }
     if i.whole | i.begun() {
         return Reply::Numbers(0, 0);

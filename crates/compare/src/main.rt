@@ -45,6 +45,7 @@ fn answer_all(buf: &mut [u8], out: &mut [u8]) {
     let mut numbers = [0u32; 192];
     let mut sheet = [0u8; 20736];
     let mut answers = [0u32; 4096];
+    let mut table = [0u32; 65600];
     let mut held = [0u32; 192];
     machine::start(&mut held, &numbers);
     let mut i = Input::new();
@@ -52,7 +53,14 @@ fn answer_all(buf: &mut [u8], out: &mut [u8]) {
     let mut turns = u64::MAX;
     while turns > 0 && i.open {
         i = i.next_line(buf, &mut numbers);
-        let reply = answered(i, &mut held, &mut numbers, &mut sheet, &mut answers);
+        let reply = answered(
+            i,
+            &mut held,
+            &mut numbers,
+            &mut sheet,
+            &mut answers,
+            &mut table,
+        );
         to = put(reply, &numbers, out, to);
         turns -= 1;
     }

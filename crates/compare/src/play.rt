@@ -53,42 +53,51 @@ fn put_run(n: &mut [u32; 192], ran: Ran, requests: Requests) -> Reply {
 }
 
 // The panel's run, or the runner's.
-fn ran_of(n: &[u32; 192], sheet: &[u8], answers: &[u32]) -> Ran {
+fn ran_of(n: &[u32; 192], sheet: &[u8], answers: &[u32], table: &[u32]) -> Ran {
     if n[0] == 0x16 {
-        return panel::preview(state(n), sheet, answers, n[121]);
+        return panel::preview(state(n), sheet, answers, table, n[121]);
     }
-    runner::run(state(n), sheet, answers, n[121])
+    runner::run(state(n), sheet, answers, table, n[121])
 }
 
-fn run_of(n: &mut [u32; 192], sheet: &[u8], answers: &[u32]) -> Reply {
-    let ran = ran_of(n, sheet, answers);
-    let requests = requests_of(n, sheet, answers, ran.ticks);
+fn run_of(n: &mut [u32; 192], sheet: &[u8], answers: &[u32], table: &[u32]) -> Reply {
+    let ran = ran_of(n, sheet, answers, table);
+    let requests = requests_of(n, sheet, answers, table, ran.ticks);
     put_run(n, ran, requests)
 }
 
 // The player's play, or a run.
-fn either(n: &mut [u32; 192], sheet: &[u8], answers: &[u32]) -> Reply {
+fn either(n: &mut [u32; 192], sheet: &[u8], answers: &[u32], table: &[u32]) -> Reply {
     if n[0] == 0x15 {
-        return play_of(n, sheet, answers);
+        return play_of(n, sheet, answers, table);
     }
-    run_of(n, sheet, answers)
+    run_of(n, sheet, answers, table)
 }
 
-// One of them with the first so many of the answers that are held.
-fn run_with(n: &mut [u32; 192], sheet: &[u8], answers: &[u32], at: usize) -> Reply {
-    let count = num(n, at, 1) as usize;
-    if count <= answers.len() {
-        return either(n, sheet, &answers[..count]);
+// One of them with the first so many of the special registers that are held.
+fn run_told(n: &mut [u32; 192], sheet: &[u8], answers: &[u32], table: &[u32], at: usize) -> Reply {
+    let count = num(n, at, 2) as usize;
+    if count <= table.len() {
+        return either(n, sheet, answers, &table[..count]);
     }
     Reply::Numbers(0, 0)
 }
 
-// One of them with the first so many bytes that are held; an empty line where they are fewer. The two numbers stand
+// One of them with the first so many of the answers that are held.
+fn run_with(n: &mut [u32; 192], sheet: &[u8], answers: &[u32], table: &[u32], at: usize) -> Reply {
+    let count = num(n, at, 1) as usize;
+    if count <= answers.len() {
+        return run_told(n, sheet, &answers[..count], table, at);
+    }
+    Reply::Numbers(0, 0)
+}
+
+// One of them with the first so many bytes that are held; an empty line where they are fewer. The three numbers stand
 // at `at`.
-pub fn run(n: &mut [u32; 192], sheet: &[u8], answers: &[u32], at: usize) -> Reply {
+pub fn run(n: &mut [u32; 192], sheet: &[u8], answers: &[u32], table: &[u32], at: usize) -> Reply {
     let bytes = num(n, at, 0) as usize;
     if bytes <= sheet.len() {
-        return run_with(n, &sheet[..bytes], answers, at);
+        return run_with(n, &sheet[..bytes], answers, table, at);
     }
     Reply::Numbers(0, 0)
 }

@@ -41,7 +41,7 @@ fn put_played(n: &mut [u32; 192], p: Played) -> Reply {
 }
 
 // A play from the values that the line begins with.
-pub fn play_of(n: &mut [u32; 192], sheet: &[u8], answers: &[u32]) -> Reply {
-    let p = player::play(begin(n), sheet, answers, n[37]);
+pub fn play_of(n: &mut [u32; 192], sheet: &[u8], answers: &[u32], table: &[u32]) -> Reply {
+    let p = player::play(begin(n), sheet, answers, table, n[37]);
     put_played(n, p)
 }

@@ -8,6 +8,7 @@ use crate::read_latch::ex_mem;
 use crate::read_latch::id_ex;
 use crate::read_latch::if_id;
 use crate::read_latch::mem_wb;
+use isa::Special;
 use isa::Start;
 use pipeline::Answer;
 use pipeline::Counters;
@@ -98,9 +99,19 @@ fn answer(n: &[u32; 192], at: usize) -> Answer {
     Answer::None
 }
 
+// What is said of a special register: 0 nothing, 1 no such register, 2 its word.
+pub fn special(n: &[u32; 192], at: usize) -> Special {
+    match num(n, at, 0) {
+        0 => Special::None,
+        1 => Special::NoSuch,
+        _ => Special::Word(num(n, at, 1)),
+    }
+}
+
 pub fn given(n: &[u32; 192], at: usize) -> Given {
     Given {
         offer: offer(n, at),
         answer: answer(n, at),
+        special: special(n, std::num::wrapping_add_usize(at, 7)),
     }
 }

@@ -9,6 +9,7 @@ use crate::write_latch::set_ex_mem;
 use crate::write_latch::set_id_ex;
 use crate::write_latch::set_if_id;
 use crate::write_latch::set_mem_wb;
+use isa::Inquiry;
 use isa::Redirect;
 use isa::Request;
 use pipeline::Asked;
@@ -93,6 +94,19 @@ fn set_request(n: &mut [u32; 192], r: Request) {
     }
 }
 
+fn set_special(n: &mut [u32; 192], q: Inquiry) {
+    match q {
+        Inquiry::None => {
+            n[8] = 0;
+            n[9] = 0;
+        }
+        Inquiry::Of(sr) => {
+            n[8] = 1;
+            n[9] = sr as u32;
+        }
+    }
+}
+
 // The code, and what is wanted, which is nothing where asking is refused.
 pub fn set_asked(n: &mut [u32; 192], a: Asked) {
     match a {
@@ -100,13 +114,16 @@ pub fn set_asked(n: &mut [u32; 192], a: Asked) {
             n[0] = code;
             set_fetch(n, Fetch::None);
             set_request(n, Request::None);
+            set_special(n, Inquiry::None);
         }
         Asked::Wants(w) => {
             let fetch = w.fetch;
             let request = w.request;
+            let special = w.special;
             n[0] = 0;
             set_fetch(n, fetch);
             set_request(n, request);
+            set_special(n, special);
         }
     }
 }

@@ -1,3 +1,4 @@
+pub mod Asks
 pub mod Bools
 pub mod IsReg
 pub mod LowBits

@@ -10,14 +10,11 @@ use Rattle.isa.specs.Names.{Instruction}
 use Rattle.isa.specs.Operands.{okOperands, operandsN}
 use Rattle.isa.specs.Refusals.{instructionCode}
 
--- its registers are below 32, and it is no MFSR
-pub no-code : (i : Instruction) → instructionCode i ≡ 0
-    → (okOperands (operandsN i) ≡ true) × ((operandsN i) .«is_mfsr» ≡ false)
+-- its registers are below 32
+pub no-code : (i : Instruction) → instructionCode i ≡ 0 → okOperands (operandsN i) ≡ true
 unfolding instructionCode
 no-code i e = split (okOperands (operandsN i))
-    (λ t. split ((operandsN i) .«is_mfsr»)
-    (λ m. let z : _≡_ {A = ℕ} 2 0 = rw (t, m) at e in absurd (omega arith))
-    (λ m. (t, m)))
+    (λ t. t)
     (λ t. let z : _≡_ {A = ℕ} 1 0 = rw t at e in absurd (omega arith))
 
 -- a number that is not above 0

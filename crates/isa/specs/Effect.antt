@@ -7,7 +7,8 @@ use Rattle.word.specs.Words.{slt32, sltu32, sra32, srl32, sub32, xor32}
 use Rattle.isa.specs.Names.{Access, Add, Addi, AluResult, And, Beq, Bne, Cpuid, DecNormal, DecShort, Decoded, Div}
 use Rattle.isa.specs.Names.{Divu, Effect, Exception, Halt, IllegalInstruction, Instruction, Iret, Jal, Jalr}
 use Rattle.isa.specs.Names.{Jalrs, Jals, Jmp, Jmps, Jr, Jrs, Keep, Ld, Ldb, Ldh, Ldih, Ldil, Marks, Mfsr, Mod}
-use Rattle.isa.specs.Names.{Mode, Mtsr, Mul, Mulh, NewMode, Next, NoException, NoMtsr, Nop, Normal, Or}
+use Rattle.isa.specs.Names.{Mode, Mtsr, Mul, Mulh, NewMode, Next, NoException, NoInquiry, NoMtsr, Nop, Normal, Of}
+use Rattle.isa.specs.Names.{Or}
 use Rattle.isa.specs.Names.{PrivilegedInstruction, Redirect, Short, ShortInstruction, Sla, Sll, Slt, Sltu, Sra}
 use Rattle.isa.specs.Names.{Srl, St, Stb, Sth, Sub, Syscall, SyscallException, To, ToMode, Unknown, Write, Xor}
 use Rattle.isa.specs.Names.{sAdd, sAddi, sBnz, sBz, sJal, sJr, sLd, sLdi, sMov, sRet, sSt, sUnknown}
@@ -39,15 +40,18 @@ noMarks = record { halt = false; iret = false; cpuid = false; exception = NoExce
 
 -- result r and access a, and on to the next address
 unfoldable pub goesOn : AluResult → Access → Effect
-goesOn r a = record { alu = r; access = a; redirect = Next; «branch_new_mode» = Keep; marks = noMarks }
+goesOn r a = record
+    { alu = r; access = a; redirect = Next; «branch_new_mode» = Keep; marks = noMarks; inquiry = NoInquiry }
 
 -- result r, and the way g; n: the mode that it changes to
 unfoldable pub goesBy : AluResult → Redirect → NewMode → Effect
-goesBy r g n = record { alu = r; access = noAccess; redirect = g; «branch_new_mode» = n; marks = noMarks }
+goesBy r g n = record
+    { alu = r; access = noAccess; redirect = g; «branch_new_mode» = n; marks = noMarks; inquiry = NoInquiry }
 
 -- nothing but marks k
 unfoldable pub marked : Marks → Effect
-marked k = record { alu = noResult; access = noAccess; redirect = Next; «branch_new_mode» = Keep; marks = k }
+marked k = record
+    { alu = noResult; access = noAccess; redirect = Next; «branch_new_mode» = Keep; marks = k; inquiry = NoInquiry }
 
 -- nothing
 unfoldable pub nothing : Effect
@@ -95,11 +99,16 @@ raises e = marked (record { halt = false; iret = false; cpuid = false; exception
 unfoldable pub sets : ℕ → ℕ → Effect
 sets sr v = marked (record { halt = false; iret = false; cpuid = false; exception = NoException; mtsr = Write sr v })
 
+-- MFSR: the word of special register sr is asked for, and nothing else is done
+unfoldable pub inquires : ℕ → Effect
+inquires sr = record
+    { alu = noResult; access = noAccess; redirect = Next; «branch_new_mode» = Keep; marks = noMarks; inquiry = Of sr }
+
 -- in user mode a privileged instruction raises an exception
 unfoldable pub privileged : Bool → Effect → Effect
 privileged u e = cond u (raises PrivilegedInstruction) e
 
--- n: the address after the instruction. MFSR is refused before it executes; its row is never reached.
+-- n: the address after the instruction
 unfoldable pub effectN : Bool → Instruction → ℕ → ℕ → ℕ → Effect
 effectN u Nop n x y = nothing
 effectN u (Ld rd base offset) n x y = reaches true 4 (offset32 x offset) 0
@@ -142,7 +151,7 @@ effectN u (Ldih rd imm) n x y = gives (ldih32 x imm)
 effectN u (Unknown high low) n x y = raises IllegalInstruction
 effectN u Iret n x y = privileged u resumes
 effectN u (Syscall imm) n x y = raises (SyscallException imm)
-effectN u (Mfsr rd sr) n x y = privileged u (raises IllegalInstruction)
+effectN u (Mfsr rd sr) n x y = privileged u (inquires sr)
 effectN u (Mtsr rs sr) n x y = privileged u (sets sr x)
 
 -- RET goes to the next short address in Normal mode.

@@ -2,6 +2,7 @@ pub mod Names
 pub mod Short
 pub mod Operands
 pub mod Effect
+pub mod Inquiries
 pub mod Redirects
 pub mod Registers
 pub mod Waits

@@ -30,6 +30,10 @@ pub use Rattle.isa.specs.declared.Exception.the-variants.{None as NoExce
 pub use Rattle.isa.specs.declared.Exception.the-variants.{IllegalInstruction, Syscall as SyscallException}
 pub use Rattle.isa.specs.declared.Mtsr.{Mtsr as MtsrWrite}
 pub use Rattle.isa.specs.declared.Mtsr.the-variants.{None as NoMtsr, Write}
+pub use Rattle.isa.specs.declared.Inquiry.{Inquiry}
+pub use Rattle.isa.specs.declared.Inquiry.the-variants.{None as NoInquiry, Of}
+pub use Rattle.isa.specs.declared.Special.{Special}
+pub use Rattle.isa.specs.declared.Special.the-variants.{None as Unsaid, NoSuch, Word as SpecialWord}
 pub use Rattle.isa.specs.declared.Operands.{Operands}
 pub use Rattle.isa.specs.declared.AluResult.{AluResult}
 pub use Rattle.isa.specs.declared.Access.{Access}

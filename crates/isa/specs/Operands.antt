@@ -26,7 +26,6 @@ plain a b n d l = record {
   latency = l;
   «is_branch» = false;
   offset = 0;
-  «is_mfsr» = false;
 }
 
 -- no source, no destination
@@ -61,7 +60,6 @@ loading d a = record {
   latency = 0;
   «is_branch» = false;
   offset = 0;
-  «is_mfsr» = false;
 }
 
 -- a store of register b to address or base a
@@ -76,7 +74,6 @@ storing a b = record {
   latency = 0;
   «is_branch» = false;
   offset = 0;
-  «is_mfsr» = false;
 }
 
 -- a conditional branch on n sources
@@ -91,22 +88,6 @@ branching a b n o = record {
   latency = 0;
   «is_branch» = true;
   offset = wordOf o;
-  «is_mfsr» = false;
-}
-
--- MFSR: a special register's word goes to d
-unfoldable pub special : ℕ → Operands
-special d = record {
-  «src_a» = 0;
-  «src_b» = 0;
-  «n_srcs» = 0;
-  dest = Reg d;
-  «is_load» = false;
-  «is_store» = false;
-  latency = 0;
-  «is_branch» = false;
-  offset = 0;
-  «is_mfsr» = true;
 }
 
 -- the latency of MUL and MULH
@@ -160,7 +141,7 @@ operandsN (Ldih rd imm) = unary rd rd
 operandsN (Unknown high low) = bare
 operandsN Iret = bare
 operandsN (Syscall imm) = bare
-operandsN (Mfsr rd sr) = special rd
+operandsN (Mfsr rd sr) = writes rd
 operandsN (Mtsr rs sr) = reads rs
 
 -- Short ST: rd is the address, rs1 the value. RET reads no register.

@@ -1,4 +1,4 @@
--- The refusals of an instruction: 1, a register above 31; 2, MFSR; 0 for neither. And the mode that it is of.
+-- The refusal of an instruction: 1, a register above 31; 0 for none. And the mode that it is of.
 use Prim.Native.Nat.{ℕ}
 use mathlib.Core.Bool.{Bool, cond, false, true}
 use Rattle.isa.specs.Names.{DecNormal, DecShort, Decoded, Instruction, Mode, Normal, RawInstr, RawNormal}
@@ -7,7 +7,7 @@ use Rattle.isa.specs.Operands.{okOperands, operandsN}
 
 -- the code of a Normal instruction
 unfoldable pub instructionCode : Instruction → ℕ
-instructionCode i = cond (okOperands (operandsN i)) (cond ((operandsN i) .«is_mfsr») 2 0) 1
+instructionCode i = cond (okOperands (operandsN i)) 0 1
 
 -- the code of what a fetch brings; a halfword has none
 unfoldable pub rawCode : RawInstr → ℕ

@@ -2,13 +2,14 @@
 ghost use mathlib.Core.Path.{_≡_};
 ghost use Rattle.word.specs.Words.{offset32};
 ghost use Rattle.isa.specs.Effect.{branches, effectN, effectOf, effectS, gives, goesBy, goesOn, identifies};
-ghost use Rattle.isa.specs.Effect.{jumps, links, marked, noAccess, noMarks, noResult, nothing, privileged};
-ghost use Rattle.isa.specs.Effect.{raises, reaches, resumes, sets, stops, written};
+ghost use Rattle.isa.specs.Effect.{inquires, jumps, links, marked, noAccess, noMarks, noResult, nothing};
+ghost use Rattle.isa.specs.Effect.{privileged, raises, reaches, resumes, sets, stops, written};
 use crate::Access;
 use crate::AluResult;
 use crate::Decoded;
 use crate::Effect;
 use crate::Exception;
+use crate::Inquiry;
 use crate::Instruction;
 use crate::Marks;
 use crate::Mode;
@@ -78,6 +79,7 @@ fn goes_on(alu: AluResult, access: Access) -> Effect
         redirect: Redirect::Next,
         branch_new_mode: NewMode::Keep,
         marks: no_marks(),
+        inquiry: Inquiry::None,
     }
 }
 
@@ -91,6 +93,7 @@ fn goes_by(alu: AluResult, redirect: Redirect, n: NewMode) -> Effect
         redirect,
         branch_new_mode: n,
         marks: no_marks(),
+        inquiry: Inquiry::None,
     }
 }
 
@@ -104,6 +107,7 @@ fn marked(marks: Marks) -> Effect
         redirect: Redirect::Next,
         branch_new_mode: NewMode::Keep,
         marks,
+        inquiry: Inquiry::None,
     }
 }
 
@@ -115,7 +119,7 @@ fn nothing() -> Effect
 }
 
 // The destination gets `v`.
-fn gives(v: u32) -> Effect
+pub(crate) fn gives(v: u32) -> Effect
     ensures { λ r. ⌜ r ≡ gives v ⌝ }
 {
     goes_on(written(v, false), no_access())
@@ -214,6 +218,20 @@ fn sets(sr: u16, v: u32) -> Effect
     })
 }
 
+// MFSR: the word of special register `sr` is asked for, and nothing else is done.
+fn inquires(sr: u16) -> Effect
+    ensures { λ r. ⌜ r ≡ inquires sr ⌝ }
+{
+    Effect {
+        alu: no_result(),
+        access: no_access(),
+        redirect: Redirect::Next,
+        branch_new_mode: NewMode::Keep,
+        marks: no_marks(),
+        inquiry: Inquiry::Of(sr),
+    }
+}
+
 // In user mode a privileged instruction raises an exception.
 fn privileged(user: bool, e: Effect) -> Effect
     ensures { λ r. ⌜ r ≡ privileged user e ⌝ }
@@ -289,7 +307,7 @@ impl Instruction {
             Instruction::Unknown(_, _) => raises(Exception::IllegalInstruction),
             Instruction::Iret => privileged(user, resumes()),
             Instruction::Syscall { imm } => raises(Exception::Syscall(imm)),
-            Instruction::Mfsr { .. } => privileged(user, raises(Exception::IllegalInstruction)),
+            Instruction::Mfsr { sr, .. } => privileged(user, inquires(sr)),
             Instruction::Mtsr { sr, .. } => privileged(user, sets(sr, a)),
         }
     }

@@ -25,11 +25,16 @@
 //   short ST with its operands exchanged (short_st_operands_swapped).
 // - Dest::in_bounds: 32 in bounds; out of bounds where no destination is named.
 // - Operands::in_bounds: the destination not tested; a source tested only where `n_srcs` counts it.
-// - Instruction::code: 2 for MFSR with a register above 31; 0 for MFSR.
+// - Instruction::code: 2 for MFSR; 0 for ADD with register 32.
 // - RawInstr::code: 1 for an unknown halfword; 0 for a Normal instruction with register 32.
 // - RawInstr::is_of: a halfword of either mode; the two modes exchanged.
-// - Decoded::code: 1 for register 16 of a Short instruction; 0 for MFSR.
-// - Decoded::effect: RET to the address in R31 (ret_to_r31); HALT that halts in user mode.
+// - Decoded::code: 1 for register 16 of a Short instruction; 2 for MFSR.
+// - Decoded::effect: RET to the address in R31 (ret_to_r31); HALT that halts in user mode; a special register asked for
+//   in user mode (asked_in_user_mode).
+// - Inquiry::is_some: false for special register 0; true for none.
+// - Special::is_some: false for no such register; true where nothing is said.
+// - Special::effect: 0 for no such register (absent_still_writes); the word cut to 16 bits.
+// - Effect::filled: an effect that asks for nothing replaced; one that asks left as it is.
 // - raises: an exception that leaves `writes` set; no exception for SYSCALL 0.
 // - Mode::size: 4 for Short; 2 for Normal.
 // - Mode::fall: 4 added in Short mode; a sum that stops at FFFFFFFF.
@@ -37,6 +42,7 @@ mod destinations;
 pub mod effect_table;
 mod encoding;
 mod exceptions;
+mod inquiries;
 mod modes;
 mod operand_table;
 mod prediction;
@@ -192,9 +198,21 @@ pub enum Mtsr {
     Write(u16, u32),
 }
 
+// The special register that MFSR asks for.
+pub enum Inquiry {
+    None,
+    Of(u16),
+}
+
+// What is said of a special register: nothing, that there is no such register, or its word.
+pub enum Special {
+    None,
+    NoSuch,
+    Word(u32),
+}
+
 // What an instruction names: its two sources (R0 where it has none), how many, its destination,
-// whether it loads or stores, its latency (0: none), a conditional branch's offset as a word,
-// and whether it is MFSR.
+// whether it loads or stores, its latency (0: none), a conditional branch's offset as a word.
 pub struct Operands {
     pub src_a: u8,
     pub src_b: u8,
@@ -205,7 +223,6 @@ pub struct Operands {
     pub latency: u8,
     pub is_branch: bool,
     pub offset: u32,
-    pub is_mfsr: bool,
 }
 
 // The word that an instruction computes. `writes`: its destination gets a word;
@@ -240,4 +257,5 @@ pub struct Effect {
     pub redirect: Redirect,
     pub branch_new_mode: NewMode,
     pub marks: Marks,
+    pub inquiry: Inquiry,
 }

@@ -1,7 +1,7 @@
 // What an instruction names: the table of specs/Operands.antt, row by row.
 ghost use mathlib.Core.Path.{_≡_};
 ghost use Rattle.isa.specs.Operands.{bare, binary, branching, loading, operandsN, operandsOf, operandsS, plain};
-ghost use Rattle.isa.specs.Operands.{reads, special, storing, unary, writes};
+ghost use Rattle.isa.specs.Operands.{reads, storing, unary, writes};
 use crate::Decoded;
 use crate::Dest;
 use crate::Instruction;
@@ -24,7 +24,6 @@ fn plain(a: u8, b: u8, n: u8, d: Dest, l: u8) -> Operands
         latency: l,
         is_branch: false,
         offset: 0,
-        is_mfsr: false,
     }
 }
 
@@ -77,7 +76,6 @@ fn loading(d: u8, a: u8) -> Operands
         latency: 0,
         is_branch: false,
         offset: 0,
-        is_mfsr: false,
     }
 }
 
@@ -95,7 +93,6 @@ fn storing(a: u8, b: u8) -> Operands
         latency: 0,
         is_branch: false,
         offset: 0,
-        is_mfsr: false,
     }
 }
 
@@ -113,25 +110,6 @@ fn branching(a: u8, b: u8, n: u8, o: i16) -> Operands
         latency: 0,
         is_branch: true,
         offset: word::of_signed(o),
-        is_mfsr: false,
-    }
-}
-
-// MFSR, into `d`.
-fn special(d: u8) -> Operands
-    ensures { λ r. ⌜ r ≡ special d ⌝ }
-{
-    Operands {
-        src_a: 0,
-        src_b: 0,
-        n_srcs: 0,
-        dest: Dest::Reg(d),
-        is_load: false,
-        is_store: false,
-        latency: 0,
-        is_branch: false,
-        offset: 0,
-        is_mfsr: true,
     }
 }
 
@@ -182,7 +160,7 @@ impl Instruction {
             Instruction::Unknown(_, _) => bare(),
             Instruction::Iret => bare(),
             Instruction::Syscall { .. } => bare(),
-            Instruction::Mfsr { rd, .. } => special(rd),
+            Instruction::Mfsr { rd, .. } => writes(rd),
             Instruction::Mtsr { rs, .. } => reads(rs),
         }
     }

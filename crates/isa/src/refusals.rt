@@ -1,4 +1,4 @@
-// The refusals of an instruction: 1, a register above 31; 2, MFSR; 0 for neither. And the mode that it is of.
+// The refusal of an instruction: 1, a register above 31; 0 for none. And the mode that it is of.
 ghost use mathlib.Core.Path.{_≡_};
 ghost use Rattle.isa.specs.Names.{Short};
 ghost use Rattle.isa.specs.Operands.{okOperands};
@@ -20,15 +20,12 @@ impl Operands {
 }
 
 impl Instruction {
-    // Its refusal, of the registers that it names first.
+    // Its refusal.
     pub fn code(self) -> u32
         ensures { λ r. ⌜ r ≡ instructionCode self ⌝ }
     {
         let o = self.operands();
         if o.in_bounds() {
-            if o.is_mfsr {
-                return 2;
-            }
             return 0;
         }
         1

@@ -16,16 +16,16 @@ unfolding badLength bare both codeAt firstCode firstRefused haltSheet instructio
     okOperands operandsN panelCode plain plainOf previewed ran recordAt recordCode recordOf runCode sheetCode
     unknownSheet within zeros
 rows = record {
-  longest = λ sheet e s l. within-is s sheet l 10000 (omega arith) (omega arith);
-  longer = λ sheet e s l. rw e;
-  odd = λ sheet e s l. rw e;
-  runnersLongest = λ sheet e s l. rw e;
-  runnersLonger = λ sheet e s l. rw e;
-  highest = λ s l. refl;
-  higher = λ s l. refl;
-  runnersHighest = λ s l. refl;
-  runnersHigher = λ s l. refl;
-  bothOver = λ sheet e s l. rw e;
-  unknown = λ s l. refl;
-  outside = λ s l e. rw e;
+  longest = λ sheet e s l t. within-is s sheet l t 10000 (omega arith) (omega arith);
+  longer = λ sheet e s l t. rw e;
+  odd = λ sheet e s l t. rw e;
+  runnersLongest = λ sheet e s l t. rw e;
+  runnersLonger = λ sheet e s l t. rw e;
+  highest = λ s l t. refl;
+  higher = λ s l t. refl;
+  runnersHighest = λ s l t. refl;
+  runnersHigher = λ s l t. refl;
+  bothOver = λ sheet e s l t. rw e;
+  unknown = λ s l t. refl;
+  outside = λ s l t e. rw e;
 }

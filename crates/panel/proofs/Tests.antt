@@ -63,46 +63,46 @@ tested sheet limit = split (badLength (length sheet))
     (λ d. runners (within sheet limit (ltb-false 1280 (length sheet) b) (ltb-false 10000 limit d)))))
 
 -- refused
-pub refused-is : (s : PipelineCpu) (sheet l : List ℕ) (limit n : ℕ) → panelCode sheet limit ≡ n → 0 < n
-    → previewed s sheet l limit ≡ refusedRun n s
+pub refused-is : (s : PipelineCpu) (sheet l t : List ℕ) (limit n : ℕ) → panelCode sheet limit ≡ n → 0 < n
+    → previewed s sheet l t limit ≡ refusedRun n s
 unfolding previewed
-refused-is s sheet l limit n e h = rw (e, lt-ltb 0 n h)
+refused-is s sheet l t limit n e h = rw (e, lt-ltb 0 n h)
 
 -- as the runner
-runners-is : (s : PipelineCpu) (sheet l : List ℕ) (limit : ℕ) → panelCode sheet limit ≡ limitedCode sheet limit
-    → previewed s sheet l limit ≡ ran s sheet l limit
+runners-is : (s : PipelineCpu) (sheet l t : List ℕ) (limit : ℕ) → panelCode sheet limit ≡ limitedCode sheet limit
+    → previewed s sheet l t limit ≡ ran s sheet l t limit
 unfolding previewed ran runCode
-runners-is s sheet l limit e = split (ltb 0 (limitedCode sheet limit))
+runners-is s sheet l t limit e = split (ltb 0 (limitedCode sheet limit))
     (λ a. rw (e, a, a))
     (λ a. rw (e, a))
 
-pub within-is : (s : PipelineCpu) (sheet l : List ℕ) (limit : ℕ) → length sheet ≤ 1280 → limit ≤ 10000
-    → previewed s sheet l limit ≡ ran s sheet l limit
-within-is s sheet l limit h g = runners-is s sheet l limit (within sheet limit h g)
+pub within-is : (s : PipelineCpu) (sheet l t : List ℕ) (limit : ℕ) → length sheet ≤ 1280 → limit ≤ 10000
+    → previewed s sheet l t limit ≡ ran s sheet l t limit
+within-is s sheet l t limit h g = runners-is s sheet l t limit (within sheet limit h g)
 
-refused-end : (s : PipelineCpu) (sheet l : List ℕ) (limit n : ℕ) → panelCode sheet limit ≡ n → 0 < n
-    → (previewed s sheet l limit) .end ≡ EndRefused n
+refused-end : (s : PipelineCpu) (sheet l t : List ℕ) (limit n : ℕ) → panelCode sheet limit ≡ n → 0 < n
+    → (previewed s sheet l t limit) .end ≡ EndRefused n
 unfolding refusedRun
-refused-end s sheet l limit n e h = ap (λ (r : Ran). r .end) (refused-is s sheet l limit n e h)
+refused-end s sheet l t limit n e h = ap (λ (r : Ran). r .end) (refused-is s sheet l t limit n e h)
 
 halts-not : (n : ℕ) → Halted ≡ EndRefused n → ⊥
 halts-not n e = let z : _≡_ {A = ℕ} 0 1 = cc in omega arith
 
 -- by what the tests gave
-neither-by : (s : PipelineCpu) (sheet l : List ℕ) (limit : ℕ) → Tested sheet limit
-    → ((previewed s sheet l limit) .end ≡ EndRefused 8 → ⊥)
-    → ((previewed s sheet l limit) .end ≡ EndRefused 9 → ⊥)
-    → previewed s sheet l limit ≡ ran s sheet l limit
-neither-by s sheet l limit (eight e) p q = absurd (p (refused-end s sheet l limit 8 e (omega arith)))
-neither-by s sheet l limit (nine e) p q = absurd (q (refused-end s sheet l limit 9 e (omega arith)))
-neither-by s sheet l limit (runners e) p q = runners-is s sheet l limit e
+neither-by : (s : PipelineCpu) (sheet l t : List ℕ) (limit : ℕ) → Tested sheet limit
+    → ((previewed s sheet l t limit) .end ≡ EndRefused 8 → ⊥)
+    → ((previewed s sheet l t limit) .end ≡ EndRefused 9 → ⊥)
+    → previewed s sheet l t limit ≡ ran s sheet l t limit
+neither-by s sheet l t limit (eight e) p q = absurd (p (refused-end s sheet l t limit 8 e (omega arith)))
+neither-by s sheet l t limit (nine e) p q = absurd (q (refused-end s sheet l t limit 9 e (omega arith)))
+neither-by s sheet l t limit (runners e) p q = runners-is s sheet l t limit e
 
 pub neither : NeitherEightNorNine
-neither s sheet l limit p q = neither-by s sheet l limit (tested sheet limit) p q
+neither s sheet l t limit p q = neither-by s sheet l t limit (tested sheet limit) p q
 
 pub same-result : SameResult
 unfolding previewed
-same-result s sheet l limit e = rw e
+same-result s sheet l t limit e = rw e
 
 accepted-by : (sheet : List ℕ) (limit : ℕ) → Tested sheet limit → panelCode sheet limit ≡ 0 → limitedCode sheet limit ≡ 0
 accepted-by sheet limit (eight e) z = absurd (omega (arith, sym e ∙ z))
@@ -117,15 +117,15 @@ accepted-within sheet limit e h g = within sheet limit h g ∙ e
 
 -- a halted preview is the runner's
 pub preview-halted : PreviewHalted
-preview-halted sheet v len limit l e =
-    let z = neither (fresh v) sheet l limit (λ q. halts-not 8 (sym e ∙ q)) (λ q. halts-not 9 (sym e ∙ q)) in
-    rw z (sheet-halted sheet v len limit l (sym (ap (λ (r : Ran). r .end) z) ∙ e))
+preview-halted sheet t v len limit l e =
+    let z = neither (fresh v) sheet l t limit (λ q. halts-not 8 (sym e ∙ q)) (λ q. halts-not 9 (sym e ∙ q)) in
+    rw z (sheet-halted sheet t v len limit l (sym (ap (λ (r : Ran). r .end) z) ∙ e))
 
 -- where no bound is passed, the code leaves every test to the runner
-pub not-over : (s : PipelineCpu) (sheet l : List ℕ) (limit : ℕ) → overCode sheet limit ≡ 0
-    → previewed s sheet l limit ≡ ran s sheet l limit
+pub not-over : (s : PipelineCpu) (sheet l t : List ℕ) (limit : ℕ) → overCode sheet limit ≡ 0
+    → previewed s sheet l t limit ≡ ran s sheet l t limit
 unfolding overCode longCode highCode
-not-over s sheet l limit e = split (ltb 1280 (length sheet))
+not-over s sheet l t limit e = split (ltb 1280 (length sheet))
     (λ a. split (badLength (length sheet))
     (λ b. let z : _≡_ {A = ℕ} 6 0 = rw (a, b) at e in absurd (omega arith))
     (λ b. let z : _≡_ {A = ℕ} 8 0 = rw (a, b) at e in absurd (omega arith)))
@@ -134,4 +134,4 @@ not-over s sheet l limit e = split (ltb 1280 (length sheet))
     (λ d. let z : limitedCode sheet limit ≡ 0 = rw (a, b, d) at e in
     absurd (omega (arith, ltb-true 0 (limitedCode sheet limit) d)))
     (λ d. let z : _≡_ {A = ℕ} 9 0 = rw (a, b, d) at e in absurd (omega arith)))
-    (λ b. within-is s sheet l limit (ltb-false 1280 (length sheet) a) (ltb-false 10000 limit b)))
+    (λ b. within-is s sheet l t limit (ltb-false 1280 (length sheet) a) (ltb-false 10000 limit b)))

@@ -16,9 +16,9 @@ use Rattle.panel.specs.Rows.{Rows}
 -- Wherever the panel gives neither 8 nor 9, its result is the runner's, refusals too.
 abbrev pub NeitherEightNorNine : Type 0
 NeitherEightNorNine =
-    (s : PipelineCpu) (sheet l : List ℕ) (limit : ℕ)
-    → let r = previewed s sheet l limit in
-    (r .end ≡ EndRefused 8 → ⊥) → (r .end ≡ EndRefused 9 → ⊥) → r ≡ ran s sheet l limit
+    (s : PipelineCpu) (sheet l t : List ℕ) (limit : ℕ)
+    → let r = previewed s sheet l t limit in
+    (r .end ≡ EndRefused 8 → ⊥) → (r .end ≡ EndRefused 9 → ⊥) → r ≡ ran s sheet l t limit
 
 -- What the panel accepts of sheets and limits, the runner accepts;
 abbrev pub AcceptedToo : Type 0
@@ -30,20 +30,20 @@ AcceptedWithin =
     (sheet : List ℕ) (limit : ℕ)
     → limitedCode sheet limit ≡ 0 → length sheet ≤ 1280 → limit ≤ 10000 → panelCode sheet limit ≡ 0
 
--- A sheet and a limit that both accept, with the same state and load answers, give both the same result. So every claim
--- about runs holds of the panel's.
+-- A sheet and a limit that both accept, with the same state, load answers and table of special registers, give both the
+-- same result. So every claim about runs holds of the panel's.
 abbrev pub SameResult : Type 0
 SameResult =
-    (s : PipelineCpu) (sheet l : List ℕ) (limit : ℕ)
-    → panelCode sheet limit ≡ 0 → previewed s sheet l limit ≡ ran s sheet l limit
+    (s : PipelineCpu) (sheet l t : List ℕ) (limit : ℕ)
+    → panelCode sheet limit ≡ 0 → previewed s sheet l t limit ≡ ran s sheet l t limit
 
 -- For one: a preview from a fresh state that ends halted has the formula's ticks and the machine's registers.
 abbrev pub PreviewHalted : Type 0
 PreviewHalted =
-    (sheet : List ℕ) (v : Start) → length (v .reg) ≡ 32 → (limit : ℕ) (l : List ℕ)
-    → let r = previewed (fresh v) sheet l limit in
+    (sheet t : List ℕ) (v : Start) → length (v .reg) ≡ 32 → (limit : ℕ) (l : List ℕ)
+    → let r = previewed (fresh v) sheet l t limit in
     r .end ≡ Halted
-    → HaltedReport (programOf (sheetSource sheet) v) (archWith v l) (r .state .counts .«instructions_executed») r
+    → HaltedReport (programOf (sheetSource sheet t) v) (archWith v l) (r .state .counts .«instructions_executed») r
 
 -- Everything claimed; proved in proofs/Claims.antt.
 pub record Claims : Type 0 where

@@ -10,13 +10,13 @@ use Rattle.runs.specs.Run.{ran, refusedRun}
 use Rattle.panel.specs.Names.{PipelineCpu}
 use Rattle.panel.specs.Panel.{previewed}
 
--- the runner's result, whatever the state and the load answers
+-- the runner's result, whatever the state, the load answers and the table of special registers
 abbrev pub Runs : List ℕ → ℕ → Type 0
-Runs sheet limit = (s : PipelineCpu) (l : List ℕ) → previewed s sheet l limit ≡ ran s sheet l limit
+Runs sheet limit = (s : PipelineCpu) (l t : List ℕ) → previewed s sheet l t limit ≡ ran s sheet l t limit
 
 -- refused with number n, whatever these are
 abbrev pub Refuses : List ℕ → ℕ → ℕ → Type 0
-Refuses sheet limit n = (s : PipelineCpu) (l : List ℕ) → previewed s sheet l limit ≡ refusedRun n s
+Refuses sheet limit n = (s : PipelineCpu) (l t : List ℕ) → previewed s sheet l t limit ≡ refusedRun n s
 
 -- so for every sheet of k bytes, whatever its records
 abbrev pub RefusesLength : ℕ → ℕ → ℕ → Type 0
@@ -41,5 +41,5 @@ pub record Rows : Type 0 where
   -- 8 before the records and 7, a record before 9, 9 before 11
   pub bothOver : RefusesLength 1285 1000001 8
   pub unknown : Refuses unknownSheet 10001 5
-  pub outside : (s : PipelineCpu) (l : List ℕ) → outOfBounds (s .stages) ≡ true
-      → previewed s haltSheet l 10000 ≡ refusedRun 11 s
+  pub outside : (s : PipelineCpu) (l t : List ℕ) → outOfBounds (s .stages) ≡ true
+      → previewed s haltSheet l t 10000 ≡ refusedRun 11 s

@@ -1,7 +1,8 @@
 // The front panel's call: the runner, with at most 256 records and a limit of at most 10,000 ticks.
 //
 // Wrong programs that the promise of `preview` rules out: 8 for a sheet of 1,283 bytes; 5 for one of 1,285 with an
-// unknown command; 9 for a limit of 10,000 or of 1,000,001; 11 where the limit is 10,001; a limit cut down to 10,000.
+// unknown command; 9 for a limit of 10,000 or of 1,000,001; 11 where the limit is 10,001; a limit cut down to 10,000; the
+// runner lent an empty table.
 ghost use mathlib.Core.Path.{_≡_};
 ghost use Rattle.panel.specs.Inner.{highCode, longCode, overCode};
 ghost use Rattle.panel.specs.Panel.{previewed};
@@ -22,7 +23,7 @@ fn long_code(n: usize) -> u32
     8
 }
 
-// With a limit above 10,000: 6, per record 5, 1, 2, then 7, then 9.
+// With a limit above 10,000: 6, per record 5, 1, then 7, then 9.
 fn high_code(sheet: &[u8], limit: u32) -> u32
     ensures { λ r. ⌜ r ≡ highCode (now (sheet .entry)) limit ⌝ }
 {
@@ -47,9 +48,9 @@ fn over_code(sheet: &[u8], limit: u32) -> u32
     0
 }
 
-// Runs a sheet from a state to its end, within the panel's bounds.
-pub fn preview(state: PipelineCpu, sheet: &[u8], answers: &[u32], limit: u32) -> Ran
-    ensures { λ r. ⌜ r ≡ previewed state (now (sheet .entry)) (now (answers .entry)) limit ⌝ }
+// Runs a sheet from a state to its end, within the panel's bounds; `table` has the words of the special registers.
+pub fn preview(state: PipelineCpu, sheet: &[u8], answers: &[u32], table: &[u32], limit: u32) -> Ran
+    ensures { λ r. ⌜ r ≡ previewed state (now (sheet .entry)) (now (answers .entry)) (now (table .entry)) limit ⌝ }
 {
     let k = over_code(sheet, limit);
     if 0 < k {
@@ -59,5 +60,5 @@ pub fn preview(state: PipelineCpu, sheet: &[u8], answers: &[u32], limit: u32) ->
             state,
         };
     }
-    run(state, sheet, answers, limit)
+    run(state, sheet, answers, table, limit)
 }

@@ -3,18 +3,18 @@ use Prim.Native.Nat.{ℕ}
 use mathlib.Core.Bool.{Bool, false, true}
 use mathlib.Core.List.{List}
 use mathlib.Core.Path.{_∙_, _≡_, ap, refl, sym}
-use Rattle.pipeline.specs.Execute.{executed, redirectOf}
+use Rattle.pipeline.specs.Execute.{redirectOf}
 use Rattle.pipeline.specs.Fetch.{fetchFrom, fetchPlace}
 use Rattle.pipeline.specs.Inner.{heldPlan, movedPlan, usesLoad}
-use Rattle.pipeline.specs.Move.{beginsWait, freeMove, hazard, isWait, moveFrom, nextExMem, proceedOr}
+use Rattle.pipeline.specs.Move.{beginsWait, freeMove, hazard, inquiryIn, isWait, moveFrom, proceedOr}
 use Rattle.pipeline.specs.Names.{Front, Next, Redirect, Stages, To}
-use Rattle.pipeline.specs.Plans.{frontOf, planOf}
+use Rattle.pipeline.specs.Plans.{frontOf, openExMem, planOf}
 
-moves-executed : (u : Bool) (g : Redirect) (l : Stages) (rs : List ℕ) → nextExMem (moveFrom u g) l rs ≡ executed l rs
-unfolding nextExMem isWait moveFrom proceedOr
-moves-executed true g l rs = refl
-moves-executed false Next l rs = refl
-moves-executed false (To p m) l rs = refl
+moves-on : (u : Bool) (g : Redirect) → isWait (moveFrom u g) ≡ false
+unfolding isWait moveFrom proceedOr
+moves-on true g = refl
+moves-on false Next = refl
+moves-on false (To p m) = refl
 
 -- f: IF/ID decoded; u: whether it uses the load in ID/EX
 module _ (l : Stages) (rs : List ℕ) (f : Front) (u : Bool) (ef : f ≡ frontOf (l .«if_id»))
@@ -24,9 +24,9 @@ module _ (l : Stages) (rs : List ℕ) (f : Front) (u : Bool) (ef : f ≡ frontOf
   uses = ap (λ (x : Front). usesLoad l (x .operands)) (sym ef) ∙ sym eu
 
   pub plan-begins : beginsWait l u ≡ true → heldPlan l f ≡ planOf l rs
-  unfolding planOf heldPlan freeMove fetchPlace fetchFrom nextExMem isWait
+  unfolding planOf heldPlan freeMove fetchPlace fetchFrom openExMem inquiryIn isWait
   plan-begins e = rw (ef, ap (beginsWait l) uses ∙ e)
 
   pub plan-moves : beginsWait l u ≡ false → movedPlan l rs u f ≡ planOf l rs
-  unfolding planOf movedPlan freeMove fetchPlace frontOf
-  plan-moves e = rw (ef, ap (beginsWait l) uses ∙ e, moves-executed (hazard l) (redirectOf l rs) l rs, uses)
+  unfolding planOf movedPlan freeMove fetchPlace frontOf openExMem inquiryIn
+  plan-moves e = rw (ef, ap (beginsWait l) uses ∙ e, moves-on (hazard l) (redirectOf l rs), uses)

@@ -7,18 +7,19 @@ use Rattle.isa.proofs.Bools.{or-l, or-r}
 use Rattle.isa.specs.Refusals.{isOf}
 use Rattle.latch.specs.Memory.{requestIn}
 use Rattle.pipeline.specs.Advance.{awake, next, resting}
-use Rattle.pipeline.specs.Ask.{ask, askedBy, asks, fetchAt, fetchOf, loadsIn, wantFetch, wantLoad, wanted}
+use Rattle.pipeline.specs.Ask.{ask, askedBy, asks, fetchAt, fetchOf, loadsIn, wantFetch, wantLoad, wantSpecial}
+use Rattle.pipeline.specs.Ask.{wanted}
 use Rattle.pipeline.specs.Counting.{countIdle, counterFull, unlessFull}
 use Rattle.pipeline.specs.Fetch.{fetches}
 use Rattle.pipeline.specs.Inner.{Tells, TellsAll, refusedWith, tickedOn}
 use Rattle.pipeline.specs.Move.{moveOf}
-use Rattle.pipeline.specs.Names.{Accepted, Counters, Given, Instr, Mode, NoFetch, NoRequest, Normal, NotAsked}
-use Rattle.pipeline.specs.Names.{Nothing, Offer, PipelineCpu, RawInstr, Wants}
+use Rattle.pipeline.specs.Names.{Accepted, Counters, Given, Inquiry, Instr, Mode, NoFetch, NoInquiry, NoRequest}
+use Rattle.pipeline.specs.Names.{Normal, NotAsked, Nothing, Offer, PipelineCpu, RawInstr, Wants}
 use Rattle.pipeline.specs.Parts.{retirePart}
 use Rattle.pipeline.specs.Refusals.{Tests, andThen, codeOf, faulty, outOfBounds, pass, stateTests, test}
 use Rattle.pipeline.specs.Retire.{retire, retireStages}
-use Rattle.pipeline.specs.Tick.{Result, fitsOffer, givenTests, handedBack, isAnswer, offerCode, same, taken}
-use Rattle.pipeline.specs.Tick.{tests, tick, ticked, verdict}
+use Rattle.pipeline.specs.Tick.{Result, fitsOffer, fitsSpecial, givenTests, handedBack, isAnswer, offerCode}
+use Rattle.pipeline.specs.Tick.{same, taken, tests, tick, ticked, verdict}
 
 pub fits-none : (f : Bool) → (m : Mode) → not f ≡ fitsOffer f m Nothing
 unfolding fitsOffer
@@ -69,20 +70,27 @@ sure-state : (f : Bool) (s : PipelineCpu) → Sure (stateTests f s)
 unfolding Sure stateTests
 sure-state f s = ((λ e. refl), ((λ e. refl), ((λ e. refl), tt)))
 
-sure-given : (f : Bool) (m : Mode) (d : Bool) (t : Given) → Sure (givenTests f m d t)
+sure-given : (f : Bool) (m : Mode) (d : Bool) (q : Inquiry) (t : Given) → Sure (givenTests f m d q t)
 unfolding Sure givenTests
-sure-given f m d t = ((λ e. e), ((λ e. refl), ((λ e. refl), tt)))
+sure-given f m d q t = ((λ e. e), ((λ e. refl), ((λ e. refl), ((λ e. refl), tt))))
 
--- 4, where 1, 2 and 3 do not arise
-pub given-late : (fetch : Bool) (m : Mode) (load : Bool) (t : Given) (k : ℕ) (f b : Bool) → k ≡ offerCode (t .offer)
-    → ltb 0 k ≡ false → f ≡ fitsOffer fetch m (t .offer) → not f ≡ false → b ≡ same load (isAnswer (t .answer))
-    → codeOf (givenTests fetch m load t) ≡ cond (not b) 4 0
-unfolding givenTests codeOf
-given-late fetch m load t k f b ek lk ef nf eb = rw (sym ek, lk, sym ef, nf, sym eb)
+-- 4, where 1 and 3 do not arise; 10, where 4 does not arise either
+module _ (fetch : Bool) (m : Mode) (load : Bool) (q : Inquiry) (t : Given) (k : ℕ) (f b : Bool)
+    (ek : k ≡ offerCode (t .offer)) (lk : ltb 0 k ≡ false) (ef : f ≡ fitsOffer fetch m (t .offer)) (nf : not f ≡ false)
+    (eb : b ≡ same load (isAnswer (t .answer))) where
+  pub given-4 : not b ≡ true → 4 ≡ codeOf (givenTests fetch m load q t)
+  unfolding givenTests codeOf
+  given-4 e = rw (sym ek, lk, sym ef, nf, sym eb, e)
+
+  pub given-10 : (d : Bool) → not b ≡ false → d ≡ fitsSpecial q (t .special)
+      → cond (not d) 10 0 ≡ codeOf (givenTests fetch m load q t)
+  unfolding givenTests codeOf
+  given-10 d e ed = rw (sym ek, lk, sym ef, nf, sym eb, e, sym ed)
 
 -- the code of what a tick is given
 unfoldable pub tickCode : PipelineCpu → Given → ℕ
-tickCode s t = codeOf (givenTests (wantFetch s) ((fetchAt s) .mode) (wantLoad (s .stages)) t)
+tickCode s t =
+    codeOf (givenTests (wantFetch s) ((fetchAt s) .mode) (wantLoad (s .stages)) (wantSpecial s) t)
 
 module _ (s : PipelineCpu) (t : Given) (k : ℕ) where
   pub on-refuses : k ≡ tickCode s t → ltb 0 k ≡ true → refusedWith k s ≡ tickedOn s t
@@ -92,7 +100,7 @@ module _ (s : PipelineCpu) (t : Given) (k : ℕ) where
   pub on-passes : k ≡ tickCode s t → ltb 0 k ≡ false
       → record { state = next s (taken t); outcome = Accepted } ≡ tickedOn s t
   unfolding tickCode tickedOn
-  on-passes e l = all-pass _ _ s (sure-given _ _ _ _) (ap (ltb 0) (sym e) ∙ l)
+  on-passes e l = all-pass _ _ s (sure-given _ _ _ _ _) (ap (ltb 0) (sym e) ∙ l)
 
   -- the same of the state
   pub state-refuses : k ≡ codeOf (stateTests (faulty (s .stages)) s) → ltb 0 k ≡ true → refusedWith k s ≡ ticked s t
@@ -130,9 +138,13 @@ module _ (s : PipelineCpu) (e : awake (s .stages) ≡ false) where
   unfolding wantLoad
   rest-load = ap (λ (b : Bool). b && loadsIn (retireStages (s .stages))) e
 
-  pub rest-code : (t : Given) → codeOf (givenTests false Normal false t) ≡ tickCode s t
+  rest-special : wantSpecial s ≡ NoInquiry
+  unfolding wantSpecial
+  rest-special = rw e
+
+  pub rest-code : (t : Given) → codeOf (givenTests false Normal false NoInquiry t) ≡ tickCode s t
   unfolding tickCode givenTests codeOf
-  rest-code t = rw (rest-fetch, rest-load, fits-false ((fetchAt s) .mode) (t .offer))
+  rest-code t = rw (rest-fetch, rest-load, rest-special, fits-false ((fetchAt s) .mode) (t .offer))
 
   pub rest-next : (t : Given) (c : Counters) → c ≡ unlessFull (s .counts) (countIdle (s .counts))
       → counterFull (s .counts) ≡ false → record { reg = s .reg; stages = s .stages; counts = c } ≡ next s (taken t)
@@ -140,9 +152,9 @@ module _ (s : PipelineCpu) (e : awake (s .stages) ≡ false) where
   rest-next t c ec r = rw (ec, r, e)
 
   -- and nothing is wanted
-  pub rest-wants : record { fetch = NoFetch; request = NoRequest } ≡ wanted s
+  pub rest-wants : record { fetch = NoFetch; request = NoRequest; special = NoInquiry } ≡ wanted s
   unfolding wanted asks fetchOf requestIn
-  rest-wants = rw (rest-fetch, e)
+  rest-wants = rw (rest-fetch, rest-special, e)
 
 -- five counters, each told
 pub full-by :

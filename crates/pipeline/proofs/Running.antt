@@ -1,25 +1,29 @@
 -- A tick that moves, by the stages and registers that retirement leaves. Assumes nothing.
 use Prim.Native.Nat.{ℕ}
-use mathlib.Core.Bool.{Bool, _&&_, false, not, true}
+use mathlib.Core.Bool.{Bool, _&&_, cond, false, not, true}
 use mathlib.Core.List.{List}
 use mathlib.Core.Path.{_∙_, _≡_, refl, sym}
 use Rattle.isa.proofs.Bools.{split}
+use Rattle.isa.specs.Inquiries.{fill, isInquiry, mfsrWith}
 use Rattle.isa.specs.Waits.{predict}
 use Rattle.latch.specs.Decode.{decodePredicted, idExOf}
+use Rattle.latch.specs.Execute.{exMemOf}
 use Rattle.latch.specs.Latches.{emptyExMem}
 use Rattle.latch.specs.Memory.{requestIn, requests}
 use Rattle.latch.specs.Retire.{halts}
 use Rattle.pipeline.proofs.Refusing.{fits-false, tickCode}
 use Rattle.pipeline.specs.Advance.{advance, advanceBy, advanceStages, awake, idExAfter, ifIdAfter, next}
 use Rattle.pipeline.specs.Advance.{placeAfter}
-use Rattle.pipeline.specs.Ask.{asks, fetchAt, fetchOf, loadsIn, wantFetch, wantLoad, wanted}
+use Rattle.pipeline.specs.Ask.{asks, fetchAt, fetchOf, loadsIn, wantFetch, wantLoad, wantSpecial, wanted}
 use Rattle.pipeline.specs.Counting.{countRetired, counted, stalls, unlessFull}
+use Rattle.pipeline.specs.Execute.{effectFor, executed, executedBy, inquiryBy, inquiryOf}
 use Rattle.pipeline.specs.Fetch.{fetches, nextIdEx, predicted}
 use Rattle.pipeline.specs.Inner.{Retired}
-use Rattle.pipeline.specs.Move.{freeMove, isWait, move, moveOf, nextExMem, waitsOn}
-use Rattle.pipeline.specs.Names.{Counters, Fetch, Given, Move, NoFetch, Normal, PipelineCpu, Plan, Request}
-use Rattle.pipeline.specs.Names.{Stages, Taken, keepWaiting}
-use Rattle.pipeline.specs.Plans.{advancePlan, frontOf, idExFrom, planFetches, planOf, waited}
+use Rattle.pipeline.specs.Move.{freeMove, inquiryIn, isWait, move, moveOf, nextExMem, waitsOn}
+use Rattle.pipeline.specs.Names.{Counters, Effect, Fetch, Given, IdEx, Inquiry, Move, NoFetch, NoInquiry, Normal}
+use Rattle.pipeline.specs.Names.{PipelineCpu, Plan, Request, Special, Stages, Taken, keepWaiting}
+use Rattle.pipeline.specs.Plans.{advancePlan, frontOf, idExFrom, openExMem, planFetches, planOf, saidExMem}
+use Rattle.pipeline.specs.Plans.{waited}
 use Rattle.pipeline.specs.Refusals.{codeOf}
 use Rattle.pipeline.specs.Retire.{retire, retireStages}
 use Rattle.pipeline.specs.Tick.{givenTests}
@@ -28,10 +32,29 @@ id-ex-next : (l : Stages) → (rs : List ℕ) → idExFrom (l .«if_id») (front
 unfolding idExFrom frontOf nextIdEx decodePredicted idExOf predicted predict
 id-ex-next l rs = split ((l .«if_id») .valid) (λ e. rw e) (λ e. rw e)
 
+-- the open EX/MEM with what is said; w: a wait, v: ID/EX is valid
+fills-in : (b : Bool) (d : IdEx) (x y : Effect) → cond b (exMemOf d x) (exMemOf d y) ≡ exMemOf d (cond b x y)
+fills-in true d x y = refl
+fills-in false d x y = refl
+
+fills-by : (w v : Bool) (d : IdEx) (e : Effect) (c : Special)
+    → cond (isInquiry (cond w NoInquiry (cond v (e .inquiry) NoInquiry))) (exMemOf d (mfsrWith c))
+    (cond w emptyExMem (cond v (exMemOf d e) emptyExMem))
+    ≡ cond w emptyExMem (cond v (exMemOf d (fill c e)) emptyExMem)
+unfolding isInquiry fill
+fills-by true v d e c = refl
+fills-by false true d e c = fills-in (isInquiry (e .inquiry)) d (mfsrWith c) e
+fills-by false false d e c = refl
+
+fills : (m : Move) (l : Stages) (rs : List ℕ) (c : Special)
+    → cond (isInquiry (inquiryIn m l rs)) (exMemOf (l .«id_ex») (mfsrWith c)) (openExMem m l rs) ≡ nextExMem m l rs c
+unfolding inquiryIn openExMem nextExMem executed executedBy inquiryOf inquiryBy
+fills m l rs c = fills-by (isWait m) ((l .«id_ex») .valid) (l .«id_ex») (effectFor l rs (l .«id_ex»)) c
+
 planned : (l : Stages) (rs : List ℕ) (x : Taken)
     → advancePlan (planOf l rs) l rs x ≡ advanceStages (freeMove l rs) l rs x
-unfolding advancePlan planOf advanceStages
-planned l rs x = rw (id-ex-next l rs)
+unfolding advancePlan planOf saidExMem advanceStages
+planned l rs x = rw (id-ex-next l rs, fills (freeMove l rs) l rs (x .special))
 
 -- a wait looks at neither the next ID/EX nor the place to fetch from
 waits-so : (l : Stages) (rs : List ℕ) (x : Taken) → waited l x ≡ advanceStages keepWaiting l rs x
@@ -51,16 +74,21 @@ module _ (s : PipelineCpu) (l : Stages) (rs : List ℕ) (b : Retired s l rs) whe
   unfolding wantFetch retire
   wants-by m e = rw (sym (b .stages), sym (b .reg), e, b .awake)
 
+  asks-by : (m : Move) → move l rs ≡ m → wantSpecial s ≡ inquiryIn m l rs
+  unfolding wantSpecial retire
+  asks-by m e = rw (sym (b .stages), sym (b .reg), e, b .awake)
+
   next-by : (m : Move) (a : Stages) (c : Counters) (x y : Taken) → move l rs ≡ m → a ≡ advanceStages m l rs x
       → c ≡ unlessFull (s .counts) (counted m (countRetired ((l .«mem_wb») .valid) (s .counts))) → x ≡ y
       → record { reg = rs; stages = a; counts = c } ≡ next s y
   unfolding next advance retire retireStages unlessFull
   next-by m a c x y em ea ec ex = rw (moves-by m em, ea, ec, ex, b .room, b .stages, b .reg, b .awake)
 
-  wants-of : (f : Bool) (g : Fetch) (x : Request) → f ≡ wantFetch s → g ≡ fetchOf f (fetchAt s)
-      → x ≡ requestIn (requests (l .«ex_mem»)) → record { fetch = g; request = x } ≡ wanted s
+  wants-of : (f : Bool) (g : Fetch) (x : Request) (q : Inquiry) → f ≡ wantFetch s → g ≡ fetchOf f (fetchAt s)
+      → x ≡ requestIn (requests (l .«ex_mem»)) → q ≡ wantSpecial s
+      → record { fetch = g; request = x; special = q } ≡ wanted s
   unfolding wanted asks
-  wants-of f g x ef eg ex = rw (eg, ex, ef, b .stages, b .awake)
+  wants-of f g x q ef eg ex eq = rw (eg, ex, ef, eq, b .stages, b .awake)
 
   -- a wait goes on
   module _ (w : waitsOn l ≡ true) where
@@ -72,15 +100,20 @@ module _ (s : PipelineCpu) (l : Stages) (rs : List ℕ) (b : Retired s l rs) whe
     unfolding fetches stalls
     no-fetch = wants-by keepWaiting keeps ∙ split (l .running) (λ e. rw e) (λ e. rw e)
 
-    pub wait-wants : (x : Request) → x ≡ requestIn (requests (l .«ex_mem»))
-        → record { fetch = NoFetch; request = x } ≡ wanted s
-    unfolding fetchOf
-    wait-wants x ex = wants-of false NoFetch x (sym no-fetch) refl ex
+    pub no-special : wantSpecial s ≡ NoInquiry
+    unfolding inquiryIn isWait
+    no-special = asks-by keepWaiting keeps
 
-    pub wait-code : (t : Given) (k : ℕ) (d : Bool) → d ≡ loadsIn l → k ≡ codeOf (givenTests false Normal d t)
-        → k ≡ tickCode s t
+    pub wait-wants : (x : Request) → x ≡ requestIn (requests (l .«ex_mem»))
+        → record { fetch = NoFetch; request = x; special = NoInquiry } ≡ wanted s
+    unfolding fetchOf
+    wait-wants x ex = wants-of false NoFetch x NoInquiry (sym no-fetch) refl ex (sym no-special)
+
+    pub wait-code : (t : Given) (k : ℕ) (d : Bool) → d ≡ loadsIn l
+        → k ≡ codeOf (givenTests false Normal d NoInquiry t) → k ≡ tickCode s t
     unfolding tickCode givenTests codeOf
-    wait-code t k d ed ek = rw (ek, ed, want-load, no-fetch, fits-false ((fetchAt s) .mode) (t .offer))
+    wait-code t k d ed ek =
+        rw (ek, ed, want-load, no-fetch, no-special, fits-false ((fetchAt s) .mode) (t .offer))
 
     pub wait-next : (a : Stages) (c : Counters) (x y : Taken) → a ≡ waited l x
         → c ≡ unlessFull (s .counts) (counted keepWaiting (countRetired ((l .«mem_wb») .valid) (s .counts))) → x ≡ y
@@ -101,14 +134,20 @@ module _ (s : PipelineCpu) (l : Stages) (rs : List ℕ) (b : Retired s l rs) whe
     unfolding fetchAt planOf retire
     fetch-at = rw (moves-by (p .step) frees, ep, b .stages)
 
+    pub want-special : p .inquiry ≡ wantSpecial s
+    unfolding planOf
+    want-special = rw (asks-by (p .step) frees, ep)
+
     pub plan-wants : (f : Bool) (g : Fetch) (x : Request) → f ≡ planFetches l p → g ≡ fetchOf f (p .place)
-        → x ≡ requestIn (requests (l .«ex_mem»)) → record { fetch = g; request = x } ≡ wanted s
-    plan-wants f g x ef eg ex = wants-of f g x (ef ∙ want-fetch) (rw fetch-at at eg) ex
+        → x ≡ requestIn (requests (l .«ex_mem»))
+        → record { fetch = g; request = x; special = p .inquiry } ≡ wanted s
+    plan-wants f g x ef eg ex =
+        wants-of f g x (p .inquiry) (ef ∙ want-fetch) (rw fetch-at at eg) ex want-special
 
     pub plan-code : (t : Given) (k : ℕ) (f d : Bool) → f ≡ planFetches l p → d ≡ loadsIn l
-        → k ≡ codeOf (givenTests f ((p .place) .mode) d t) → k ≡ tickCode s t
+        → k ≡ codeOf (givenTests f ((p .place) .mode) d (p .inquiry) t) → k ≡ tickCode s t
     unfolding tickCode
-    plan-code t k f d ef ed ek = rw (ek, ef, ed, want-fetch, want-load, fetch-at)
+    plan-code t k f d ef ed ek = rw (ek, ef, ed, want-fetch, want-load, want-special, fetch-at)
 
     pub plan-next : (a : Stages) (c : Counters) (x y : Taken) → a ≡ advancePlan p l rs x
         → c ≡ unlessFull (s .counts) (counted (p .step) (countRetired ((l .«mem_wb») .valid) (s .counts))) → x ≡ y

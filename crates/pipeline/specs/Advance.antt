@@ -65,7 +65,7 @@ advanceBy m e d p l x = record {
 }
 
 unfoldable pub advanceStages : Move → Stages → List ℕ → Taken → Stages
-advanceStages m l rs x = advanceBy m (nextExMem m l rs) (nextIdEx l rs) (fetchPlace m l) l x
+advanceStages m l rs x = advanceBy m (nextExMem m l rs (x .special)) (nextIdEx l rs) (fetchPlace m l) l x
 
 unfoldable pub advance : Move → PipelineCpu → Taken → PipelineCpu
 advance m s x = record {

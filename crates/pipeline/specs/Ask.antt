@@ -6,9 +6,9 @@ use mathlib.Core.List.{List, []}
 use Rattle.latch.specs.Memory.{loads, requestIn, requests}
 use Rattle.pipeline.specs.Advance.{awake}
 use Rattle.pipeline.specs.Fetch.{fetchPlace, fetches}
-use Rattle.pipeline.specs.Move.{moveOf}
-use Rattle.pipeline.specs.Names.{Asked, Fetch, From, NoFetch, NotAsked, PipelineCpu, Place, Request, Stages}
-use Rattle.pipeline.specs.Names.{Wanted, Wants}
+use Rattle.pipeline.specs.Move.{inquiryIn, moveOf}
+use Rattle.pipeline.specs.Names.{Asked, Fetch, From, Inquiry, NoFetch, NoInquiry, NotAsked, PipelineCpu, Place}
+use Rattle.pipeline.specs.Names.{Request, Stages, Wanted, Wants}
 use Rattle.pipeline.specs.Refusals.{codeOf, faulty, stateTests}
 use Rattle.pipeline.specs.Retire.{retire, retireStages}
 
@@ -29,13 +29,22 @@ loadsIn l = (l .«ex_mem») .valid && loads (l .«ex_mem»)
 unfoldable pub wantLoad : Stages → Bool
 wantLoad l = awake l && loadsIn (retireStages l)
 
+-- the special register asked for, if any
+unfoldable pub wantSpecial : PipelineCpu → Inquiry
+wantSpecial s =
+    cond (awake (s .stages)) (inquiryIn (moveOf (retire s)) ((retire s) .stages) ((retire s) .reg)) NoInquiry
+
 unfoldable pub fetchOf : Bool → Place → Fetch
 fetchOf false p = NoFetch
 fetchOf true p = From (p .pc) (p .mode)
 
 -- what a tick will want
 unfoldable pub wanted : PipelineCpu → Wanted
-wanted s = record { fetch = fetchOf (wantFetch s) (fetchAt s); request = requestIn (asks (s .stages)) }
+wanted s = record {
+  fetch = fetchOf (wantFetch s) (fetchAt s);
+  request = requestIn (asks (s .stages));
+  special = wantSpecial s;
+}
 
 -- a refusal's number, 0 for none, or what is wanted
 unfoldable pub askedBy : ℕ → Wanted → Asked

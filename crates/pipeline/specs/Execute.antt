@@ -3,9 +3,10 @@ use Prim.Native.Nat.{ℕ}
 use mathlib.Core.Bool.{cond}
 use mathlib.Core.List.{List}
 use Rattle.isa.specs.Effect.{fall}
+use Rattle.isa.specs.Inquiries.{fill}
 use Rattle.latch.specs.Execute.{effectFrom, exMemOf, mispredict}
 use Rattle.latch.specs.Latches.{emptyExMem}
-use Rattle.pipeline.specs.Names.{Effect, ExMem, IdEx, Next, Redirect, Stages}
+use Rattle.pipeline.specs.Names.{Effect, ExMem, IdEx, Inquiry, Next, NoInquiry, Redirect, Special, Stages}
 
 -- what the instruction in a latch does
 unfoldable pub effectFor : Stages → List ℕ → IdEx → Effect
@@ -15,8 +16,16 @@ effectFor l rs d = effectFrom (l .user) (l .«ex_mem») (l .«mem_wb») (l .feat
 unfoldable pub executedBy : IdEx → Effect → ExMem
 executedBy l e = cond (l .valid) (exMemOf l e) emptyExMem
 
-unfoldable pub executed : Stages → List ℕ → ExMem
-executed l rs = executedBy (l .«id_ex») (effectFor l rs (l .«id_ex»))
+-- c: what is said of the special register that ID/EX asks for
+unfoldable pub executed : Stages → List ℕ → Special → ExMem
+executed l rs c = executedBy (l .«id_ex») (fill c (effectFor l rs (l .«id_ex»)))
+
+-- the special register that ID/EX asks for, by its effect
+unfoldable pub inquiryBy : IdEx → Effect → Inquiry
+inquiryBy l e = cond (l .valid) (e .inquiry) NoInquiry
+
+unfoldable pub inquiryOf : Stages → List ℕ → Inquiry
+inquiryOf l rs = inquiryBy (l .«id_ex») (effectFor l rs (l .«id_ex»))
 
 -- the redirect of this tick, by the effect of ID/EX
 unfoldable pub redirectBy : IdEx → Effect → Redirect

@@ -6,14 +6,15 @@ use mathlib.Core.Path.{_≡_}
 use Rattle.latch.specs.Decode.{loadUse}
 use Rattle.latch.specs.Latches.{emptyExMem}
 use Rattle.latch.specs.Retire.{retiredRegs}
-use Rattle.pipeline.specs.Advance.{awake, next}
-use Rattle.pipeline.specs.Ask.{fetchAt, wantFetch, wantLoad}
+use Rattle.pipeline.specs.Advance.{advanceBy, awake, next}
+use Rattle.pipeline.specs.Ask.{fetchAt, wantFetch, wantLoad, wantSpecial}
 use Rattle.pipeline.specs.Counting.{counterFull, isFull}
-use Rattle.pipeline.specs.Execute.{executed, redirectOf}
+use Rattle.pipeline.specs.Execute.{effectFor, executedBy, inquiryOf, redirectOf}
 use Rattle.pipeline.specs.Fetch.{fetchFrom}
 use Rattle.pipeline.specs.Move.{moveFrom}
-use Rattle.pipeline.specs.Names.{Accepted, Counters, Front, Given, Operands, PipelineCpu, Plan, Refused, Stages}
-use Rattle.pipeline.specs.Names.{Ticked, beginWait}
+use Rattle.pipeline.specs.Names.{Accepted, Counters, Front, Given, NoInquiry, Operands, PipelineCpu, Plan}
+use Rattle.pipeline.specs.Names.{Refused, Stages, Taken, Ticked, beginWait}
+use Rattle.pipeline.specs.Plans.{idExFrom}
 use Rattle.pipeline.specs.Retire.{retireStages}
 use Rattle.pipeline.specs.Tick.{givenTests, handedBack, taken, verdict}
 
@@ -29,7 +30,8 @@ acceptedWith rs l c = record { state = record { reg = rs; stages = l; counts = c
 unfoldable pub tickedOn : PipelineCpu → Given → Ticked
 tickedOn s t =
     handedBack
-    (verdict (givenTests (wantFetch s) ((fetchAt s) .mode) (wantLoad (s .stages)) t) (next s (taken t))) s
+    (verdict (givenTests (wantFetch s) ((fetchAt s) .mode) (wantLoad (s .stages)) (wantSpecial s) t) (next s (taken t)))
+    s
 
 -- l and rs: the stages and registers that retirement leaves of a state that a tick moves
 pub record Retired (s : PipelineCpu) (l : Stages) (rs : List ℕ) : Type 0 where
@@ -56,19 +58,25 @@ pub record TellsAll (c : Counters) (b : Bool) : Type 0 where
   pub is : b ≡ counterFull c
   pub room : b ≡ false → Room c
 
+-- the stages after the move of a plan, with the next EX/MEM so far
+unfoldable pub moveOn : Plan → Stages → List ℕ → Taken → Stages
+moveOn p l rs x = advanceBy (p .step) (p .«ex_mem») (idExFrom (l .«if_id») (p .front) rs) (p .place) l x
+
 -- an instruction in IF/ID with operands o uses the load in ID/EX
 unfoldable pub usesLoad : Stages → Operands → Bool
 usesLoad l o = (l .«if_id») .valid && loadUse (l .«id_ex») (o .«src_a») (o .«src_b»)
 
 -- the plan where a multiply or divide begins its wait
 unfoldable pub heldPlan : Stages → Front → Plan
-heldPlan l f = record { step = beginWait; «ex_mem» = emptyExMem; front = f; place = l .«fetch_at» }
+heldPlan l f = record
+    { step = beginWait; «ex_mem» = emptyExMem; inquiry = NoInquiry; front = f; place = l .«fetch_at» }
 
 -- the plan where ID/EX executes
 unfoldable pub movedPlan : Stages → List ℕ → Bool → Front → Plan
 movedPlan l rs used f = record {
   step = moveFrom used (redirectOf l rs);
-  «ex_mem» = executed l rs;
+  «ex_mem» = executedBy (l .«id_ex») (effectFor l rs (l .«id_ex»));
+  inquiry = inquiryOf l rs;
   front = f;
   place = fetchFrom (moveFrom used (redirectOf l rs)) (f .predicted) (l .«fetch_at»);
 }

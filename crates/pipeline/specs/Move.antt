@@ -9,9 +9,9 @@ use Rattle.isa.specs.Short.{decodedOf}
 use Rattle.isa.specs.Waits.{waits}
 use Rattle.latch.specs.Decode.{loadUse}
 use Rattle.latch.specs.Latches.{emptyExMem}
-use Rattle.pipeline.specs.Execute.{executed, redirectOf}
-use Rattle.pipeline.specs.Names.{ExMem, IdEx, Move, Next, PipelineCpu, Redirect, Stages, To, beginWait}
-use Rattle.pipeline.specs.Names.{keepWaiting, loadUseStall, proceed, redirect}
+use Rattle.pipeline.specs.Execute.{executed, inquiryOf, redirectOf}
+use Rattle.pipeline.specs.Names.{ExMem, IdEx, Inquiry, Move, Next, NoInquiry, PipelineCpu, Redirect, Special}
+use Rattle.pipeline.specs.Names.{Stages, To, beginWait, keepWaiting, loadUseStall, proceed, redirect}
 
 -- a wait in EX goes on: more than one tick of it is left
 unfoldable pub waitsOn : Stages → Bool
@@ -59,5 +59,9 @@ isWait proceed = false
 isWait (redirect q m) = false
 
 -- the next EX/MEM of a move: in a wait nothing leaves EX
-unfoldable pub nextExMem : Move → Stages → List ℕ → ExMem
-nextExMem m l rs = cond (isWait m) emptyExMem (executed l rs)
+unfoldable pub nextExMem : Move → Stages → List ℕ → Special → ExMem
+nextExMem m l rs c = cond (isWait m) emptyExMem (executed l rs c)
+
+-- the special register that a move asks for: in a wait nothing executes
+unfoldable pub inquiryIn : Move → Stages → List ℕ → Inquiry
+inquiryIn m l rs = cond (isWait m) NoInquiry (inquiryOf l rs)

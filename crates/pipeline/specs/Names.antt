@@ -10,6 +10,9 @@ pub use Rattle.isa.specs.declared.Redirect.{Redirect}
 pub use Rattle.isa.specs.declared.Redirect.the-variants.{Next, To}
 pub use Rattle.isa.specs.declared.Request.{Request}
 pub use Rattle.isa.specs.declared.Request.the-variants.{None as NoRequest}
+pub use Rattle.isa.specs.declared.Inquiry.{Inquiry}
+pub use Rattle.isa.specs.declared.Inquiry.the-variants.{None as NoInquiry}
+pub use Rattle.isa.specs.declared.Special.{Special}
 pub use Rattle.isa.specs.declared.Operands.{Operands}
 pub use Rattle.isa.specs.declared.Effect.{Effect}
 pub use Rattle.latch.specs.declared.IfId.{IfId}

@@ -1,7 +1,8 @@
--- The parts of the tick called by themselves: 11 where what a part is handed breaks the bounds.
+-- The parts of the tick called by themselves: 11 where what a part is handed breaks the bounds, and execution's 10.
 use Prim.Native.Nat.{ℕ}
 use lib.Dec.{ltb}
-use mathlib.Core.Bool.{_||_, cond}
+use mathlib.Core.Bool.{_||_, cond, not}
+use Rattle.isa.specs.Inquiries.{fill}
 use Rattle.isa.specs.Operands.{operandsOf}
 use Rattle.isa.specs.Refusals.{decodedCode}
 use Rattle.isa.specs.Short.{decodedOf}
@@ -12,23 +13,25 @@ use Rattle.pipeline.specs.Execute.{effectFor}
 use Rattle.pipeline.specs.Forwarding.{forwarded}
 use Rattle.pipeline.specs.Names.{Decoded, DecodedId, DecodedTo, Done, Executed, Forwarded, ForwardedWord, Hazard}
 use Rattle.pipeline.specs.Names.{IdEx, IfId, Latency, MulDiv, NoHazardTest, NoLatency, NoSources, NotDecoded}
-use Rattle.pipeline.specs.Names.{NotExecuted, NotForwarded, NotMulDiv, PipelineCpu, Sources, Ticked, Two, Waits}
+use Rattle.pipeline.specs.Names.{NotExecuted, NotForwarded, NotMulDiv, PipelineCpu, Sources, Special, Ticked, Two}
+use Rattle.pipeline.specs.Names.{Waits}
 use Rattle.pipeline.specs.Refusals.{faulty, outOfBounds, stateTests}
 use Rattle.pipeline.specs.Retire.{retire}
-use Rattle.pipeline.specs.Tick.{handedBack, verdict}
+use Rattle.pipeline.specs.Tick.{fitsSpecial, handedBack, verdict}
 
 unfoldable pub forwardedPart : PipelineCpu → ℕ → Forwarded
 forwardedPart s r =
     cond (outOfBounds (s .stages) || ltb 31 r) (NotForwarded 11) (ForwardedWord (forwarded (s .stages) (s .reg) r))
 
--- execute_ex reads neither whether the latch is valid nor what was predicted
-unfoldable pub executePart : PipelineCpu → IdEx → Executed
-executePart s l =
+-- execute_ex reads neither whether the latch is valid nor what was predicted; c: what is said of a special register
+unfoldable pub executePart : PipelineCpu → IdEx → Special → Executed
+executePart s l c =
     cond (outOfBounds (s .stages) || badIdEx l) (NotExecuted 11)
+    (cond (not (fitsSpecial ((effectFor (s .stages) (s .reg) l) .inquiry) c)) (NotExecuted 10)
     (Done (record {
-      «ex_mem» = exMemOf l (effectFor (s .stages) (s .reg) l);
+      «ex_mem» = exMemOf l (fill c (effectFor (s .stages) (s .reg) l));
       redirect = (effectFor (s .stages) (s .reg) l) .redirect;
-    }))
+    })))
 
 unfoldable pub decodePart : PipelineCpu → IfId → DecodedId
 decodePart s l = cond (outOfBounds (s .stages) || badIfId l) (NotDecoded 11) (DecodedTo (decodeId l (s .reg)))

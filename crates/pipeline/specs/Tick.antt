@@ -1,15 +1,16 @@
--- The tick: refusals 11, 12, 13, 1, 2, 3, 4 in this order, or the next state.
+-- The tick: refusals 11, 12, 13, 1, 3, 4, 10 in this order, or the next state.
 use Prim.Native.Nat.{ℕ}
 use lib.Dec.{ltb}
 use mathlib.Core.Bool.{Bool, cond, false, not, true}
+use Rattle.isa.specs.Inquiries.{isInquiry, isSaid}
 use Rattle.isa.specs.Refusals.{isOf, rawCode}
 use Rattle.pipeline.specs.Advance.{next}
-use Rattle.pipeline.specs.Ask.{fetchAt, wantFetch, wantLoad}
-use Rattle.pipeline.specs.Names.{Accepted, Answer, Given, Instr, Mode, NoAnswer, Nop, Nothing, Offer, PipelineCpu}
-use Rattle.pipeline.specs.Names.{RawInstr, RawNormal, Refused, Taken, Ticked, Word}
+use Rattle.pipeline.specs.Ask.{fetchAt, wantFetch, wantLoad, wantSpecial}
+use Rattle.pipeline.specs.Names.{Accepted, Answer, Given, Inquiry, Instr, Mode, NoAnswer, Nop, Nothing, Offer}
+use Rattle.pipeline.specs.Names.{PipelineCpu, RawInstr, RawNormal, Refused, Special, Taken, Ticked, Word}
 use Rattle.pipeline.specs.Refusals.{Tests, andThen, faulty, pass, stateTests, test}
 
--- 1 or 2 of what is offered, 0 for neither
+-- 1 of what is offered, 0 for none
 unfoldable pub offerCode : Offer → ℕ
 offerCode Nothing = 0
 offerCode (Instr i) = rawCode i
@@ -30,6 +31,10 @@ unfoldable pub same : Bool → Bool → Bool
 same true b = b
 same false b = not b
 
+-- 10 where it fails: something said exactly where a special register is asked for
+unfoldable pub fitsSpecial : Inquiry → Special → Bool
+fitsSpecial q c = same (isInquiry q) (isSaid c)
+
 -- what the tick takes in
 unfoldable pub rawOf : Offer → RawInstr
 rawOf Nothing = RawNormal Nop
@@ -40,7 +45,7 @@ wordIn NoAnswer = 0
 wordIn (Word v) = v
 
 unfoldable pub taken : Given → Taken
-taken t = record { answer = wordIn (t .answer); raw = rawOf (t .offer) }
+taken t = record { answer = wordIn (t .answer); raw = rawOf (t .offer); special = t .special }
 
 pub data Result : Type 0 where
   refused : ℕ → Result
@@ -51,18 +56,19 @@ unfoldable pub verdict : Tests → PipelineCpu → Result
 verdict pass s = moved s
 verdict (test b n c) s = cond b (refused n) (verdict c s)
 
--- what the tick is given, where a fetch in mode m or a load is wanted
-unfoldable pub givenTests : Bool → Mode → Bool → Given → Tests
-givenTests fetch m load t =
+-- what the tick is given, where a fetch in mode m, a load or a special register is wanted
+unfoldable pub givenTests : Bool → Mode → Bool → Inquiry → Given → Tests
+givenTests fetch m load q t =
     test (ltb 0 (offerCode (t .offer))) (offerCode (t .offer))
     (test (not (fitsOffer fetch m (t .offer))) 3
     (test (not (same load (isAnswer (t .answer)))) 4
-    pass))
+    (test (not (fitsSpecial q (t .special))) 10
+    pass)))
 
 unfoldable pub tests : PipelineCpu → Given → Tests
 tests s t =
     andThen (stateTests (faulty (s .stages)) s)
-    (givenTests (wantFetch s) ((fetchAt s) .mode) (wantLoad (s .stages)) t)
+    (givenTests (wantFetch s) ((fetchAt s) .mode) (wantLoad (s .stages)) (wantSpecial s) t)
 
 unfoldable pub tick : PipelineCpu → Given → Result
 tick s t = verdict (tests s t) (next s (taken t))

@@ -5,6 +5,7 @@ ghost use mathlib.Core.Path.{_≡_};
 ghost use Rattle.latch.specs.Latches.{cleared};
 ghost use Rattle.pipeline.specs.Advance.{advanceBy};
 ghost use Rattle.pipeline.specs.Fetch.{fetched};
+ghost use Rattle.pipeline.specs.Inner.{moveOn};
 ghost use Rattle.pipeline.specs.Names.{beginWait, keepWaiting, loadUseStall, proceed, redirect};
 ghost use Rattle.pipeline.specs.Plans.{advancePlan, waited};
 use crate::Move;
@@ -144,9 +145,9 @@ impl Stages {
         next
     }
 
-    // The stages after the move of a plan.
-    pub fn advance(self, plan: Plan, taken: Taken, reg: &[u32; 32]) -> Stages
-        ensures { λ r. ⌜ r ≡ advancePlan plan self (now (reg .entry)) taken ⌝ }
+    // The stages after the move of a plan, with the next EX/MEM so far.
+    fn move_on(self, plan: Plan, taken: Taken, reg: &[u32; 32]) -> Stages
+        ensures { λ r. ⌜ r ≡ moveOn plan self (now (reg .entry)) taken ⌝ }
     {
         let step = plan.step;
         match step {
@@ -159,5 +160,19 @@ impl Stages {
             }
             Move::Redirect(pc, mode) => self.redirect(pc, mode, plan.ex_mem, plan.place, taken),
         }
+    }
+
+    // The stages after the move of a plan.
+    pub fn advance(self, plan: Plan, taken: Taken, reg: &[u32; 32]) -> Stages
+        ensures { λ r. ⌜ r ≡ advancePlan plan self (now (reg .entry)) taken ⌝ }
+    {
+        let d = self.id_ex;
+        let inquiry = plan.inquiry;
+        let mut next = self.move_on(plan, taken, reg);
+        if inquiry.is_some() {
+            let special = taken.special;
+            next.ex_mem = d.ex_mem(special.effect());
+        }
+        next
     }
 }

@@ -9,6 +9,7 @@ use crate::Fetch;
 use crate::PipelineCpu;
 use crate::Place;
 use crate::Wanted;
+use isa::Inquiry;
 use isa::Request;
 
 fn fetch_of(fetches: bool, place: Place) -> Fetch
@@ -36,17 +37,20 @@ impl PipelineCpu {
             return Wanted {
                 fetch: Fetch::None,
                 request: x.request(),
+                special: Inquiry::None,
             };
         }
         let plan = s.plan(&reg);
         let place = plan.place;
+        let special = plan.inquiry;
         Wanted {
             fetch: fetch_of(s.fetches(plan), place),
             request: x.request(),
+            special,
         }
     }
 
-    // The fetch and the request of the next tick, or refusal 11, 12 or 13.
+    // The fetch, the request and the special register of the next tick, or refusal 11, 12 or 13.
     pub fn ask(self) -> Asked
         ensures { λ r. ⌜ r ≡ ask self ⌝ }
     {
@@ -61,6 +65,7 @@ impl PipelineCpu {
         Asked::Wants(Wanted {
             fetch: Fetch::None,
             request: Request::None,
+            special: Inquiry::None,
         })
     }
 }

@@ -1,7 +1,7 @@
 // What the latches make of a tick: the front of IF/ID, the next EX/MEM, the redirect, the move.
 ghost use mathlib.Core.Path.{_≡_};
 ghost use Rattle.isa.specs.Waits.{predictBy};
-ghost use Rattle.pipeline.specs.Execute.{executedBy, redirectBy};
+ghost use Rattle.pipeline.specs.Execute.{executedBy, inquiryBy, redirectBy};
 ghost use Rattle.pipeline.specs.Fetch.{fetchFrom};
 ghost use Rattle.pipeline.specs.Move.{isSlow, moveFrom};
 ghost use Rattle.pipeline.specs.Names.{Next};
@@ -11,6 +11,7 @@ use crate::Front;
 use crate::Move;
 use crate::Place;
 use isa::Effect;
+use isa::Inquiry;
 use isa::Mode;
 use isa::Operands;
 use isa::Redirect;
@@ -39,6 +40,16 @@ pub(crate) fn redirect_by(d: IdEx, e: Effect) -> Redirect
         return mispredict(d.predicted_taken, way, mode.fall(d.pc), mode);
     }
     Redirect::Next
+}
+
+// The special register that ID/EX asks for.
+pub(crate) fn inquiry_by(d: IdEx, e: Effect) -> Inquiry
+    ensures { λ r. ⌜ r ≡ inquiryBy d e ⌝ }
+{
+    if d.valid {
+        return e.inquiry;
+    }
+    Inquiry::None
 }
 
 // A multiply or divide in ID/EX.

@@ -3,14 +3,16 @@
 // Wrong programs that the promises rule out, for each function two. A name in brackets is the must-fail edit that
 // tries one, in the code or in its definition:
 // - PipelineCpu::start: R0 as it was handed in; a retire place of 0.
-// - PipelineCpu::ask: no fetch in a redirecting tick; 12 for a machine that does not run.
-// - PipelineCpu::tick: EX/MEM kept at a HALT (halt_leaves_ex_mem); 4 before 3 (refusal_4_before_3); a wait one tick
-//   longer.
+// - PipelineCpu::ask: no fetch in a redirecting tick; 12 for a machine that does not run; a special register asked for
+//   while a wait begins (asked_while_a_wait_begins).
+// - PipelineCpu::tick: EX/MEM kept at a HALT (halt_leaves_ex_mem); 4 before 3 (refusal_4_before_3); 10 before 4
+//   (refusal_10_before_4); a wait one tick longer.
 // - id_sources: the base of a store left out; 11 for an unknown halfword.
 // - is_mul_div: the wait, 2 or 15, for the latency; a latency of 0 for any other instruction.
 // - load_use_hazard: a source of 32 let through; a load to R0 waited for.
 // - PipelineCpu::forwarded: 0 for register 32; 12 where MEM/WB holds an exception.
-// - PipelineCpu::execute_ex: an empty EX/MEM for an invalid latch; no redirect where the branch was rightly predicted.
+// - PipelineCpu::execute_ex: an empty EX/MEM for an invalid latch; no redirect where the branch was rightly predicted;
+//   10 before 11.
 // - PipelineCpu::decode_id: an invalid latch made of an invalid one; a branch with negative offset predicted taken.
 // - PipelineCpu::retire: MEM/WB emptied; 12 for a machine that does not run.
 // - Stages::out_of_bounds: an invalid latch not tested; a wait of 15 out of bounds.
@@ -22,7 +24,7 @@
 //   tick redirects.
 // - Stages::fetches: no fetch in a redirecting tick; a fetch after a HALT.
 // - Stages::wants_load: the load behind a HALT; the load of an invalid EX/MEM.
-// - Stages::advance: IF/ID kept by a redirect; the front end moved on behind a used load.
+// - Stages::advance: IF/ID kept by a redirect; the front end moved on behind a used load; MFSR's word not its result.
 // - Counters::is_full: true one below the top; the flushes not tested.
 // - Counters::count: a flush counted as a stall; a full counter that starts again at 0.
 mod advance;
@@ -37,11 +39,13 @@ mod start;
 mod tick;
 
 use isa::Decoded;
+use isa::Inquiry;
 use isa::Mode;
 use isa::Operands;
 use isa::RawInstr;
 use isa::Redirect;
 use isa::Request;
+use isa::Special;
 use latch::ExMem;
 use latch::IdEx;
 use latch::IfId;
@@ -94,12 +98,14 @@ pub enum Answer {
 pub struct Given {
     pub offer: Offer,
     pub answer: Answer,
+    pub special: Special,
 }
 
-// What a tick takes in: the load's answer and the instruction offered.
+// What a tick takes in: the load's answer, the instruction offered, and what is said of a special register.
 pub struct Taken {
     pub answer: u32,
     pub raw: RawInstr,
+    pub special: Special,
 }
 
 // How a tick ended.
@@ -124,6 +130,7 @@ pub enum Fetch {
 pub struct Wanted {
     pub fetch: Fetch,
     pub request: Request,
+    pub special: Inquiry,
 }
 
 // The answer of asking.
@@ -155,10 +162,12 @@ pub struct Front {
     pub predicted: Redirect,
 }
 
-// What a tick plans once MEM/WB has retired: its move, the next EX/MEM, the front, the place to fetch from.
+// What a tick plans once MEM/WB has retired: its move, the next EX/MEM, which stands only where no special register is
+// asked for, that register, the front, the place to fetch from.
 pub struct Plan {
     pub step: Move,
     pub ex_mem: ExMem,
+    pub inquiry: Inquiry,
     pub front: Front,
     pub place: Place,
 }

@@ -11,8 +11,10 @@ use crate::MulDiv;
 use crate::PipelineCpu;
 use crate::Sources;
 use crate::Ticked;
+use crate::refusals::fits_special;
 use crate::tick::accepted;
 use isa::Decoded;
+use isa::Special;
 use latch::IdEx;
 use latch::IfId;
 use latch::execute::effect_from;
@@ -75,8 +77,8 @@ impl PipelineCpu {
     }
 
     // The next EX/MEM of a latch and the way that its instruction goes.
-    pub fn execute_ex(self, d: IdEx) -> Executed
-        ensures { λ r. ⌜ r ≡ executePart self d ⌝ }
+    pub fn execute_ex(self, d: IdEx, special: Special) -> Executed
+        ensures { λ r. ⌜ r ≡ executePart self d special ⌝ }
     {
         let reg = self.reg;
         let l = self.stages;
@@ -84,9 +86,13 @@ impl PipelineCpu {
             return Executed::Refused(11);
         }
         let e = effect_from(l.user, l.ex_mem, l.mem_wb, l.features, &reg, d);
+        let inquiry = e.inquiry;
+        if !fits_special(inquiry, special) {
+            return Executed::Refused(10);
+        }
         let redirect = e.redirect;
         Executed::Done(Execution {
-            ex_mem: d.ex_mem(e),
+            ex_mem: d.ex_mem(e.filled(special)),
             redirect,
         })
     }

@@ -9,10 +9,12 @@ use crate::Plan;
 use crate::Stages;
 use crate::execute::executed_by;
 use crate::execute::front_of;
+use crate::execute::inquiry_by;
 use crate::execute::is_slow;
 use crate::execute::move_from;
 use crate::execute::place_from;
 use crate::execute::redirect_by;
+use isa::Inquiry;
 use isa::Operands;
 use latch::ExMem;
 use latch::execute::effect_from;
@@ -50,6 +52,7 @@ impl Stages {
         Plan {
             step: Move::BeginWait,
             ex_mem: ExMem::invalid(),
+            inquiry: Inquiry::None,
             front,
             place,
         }
@@ -67,9 +70,11 @@ impl Stages {
         let e = effect_from(self.user, x, w, self.features, reg, d);
         let step = move_from(used, redirect_by(d, e));
         let ex_mem = executed_by(d, e);
+        let inquiry = inquiry_by(d, e);
         Plan {
             step,
             ex_mem,
+            inquiry,
             front,
             place: place_from(step, predicted, at),
         }

@@ -2,13 +2,15 @@
 ghost use mathlib.Core.Path.{_≡_};
 ghost use Rattle.pipeline.specs.Advance.{awake};
 ghost use Rattle.pipeline.specs.Refusals.{codeOf, faulty, outOfBounds, stateTests};
-ghost use Rattle.pipeline.specs.Tick.{fitsOffer, givenTests, isAnswer, offerCode, same};
+ghost use Rattle.pipeline.specs.Tick.{fitsOffer, fitsSpecial, givenTests, isAnswer, offerCode, same};
 use crate::Answer;
 use crate::Given;
 use crate::Offer;
 use crate::PipelineCpu;
 use crate::Stages;
+use isa::Inquiry;
 use isa::Mode;
+use isa::Special;
 
 impl Stages {
     // A latch out of its bounds, or a wait above 15.
@@ -59,7 +61,7 @@ impl PipelineCpu {
     }
 }
 
-// 1 or 2.
+// 1.
 fn offer_code(offer: Offer) -> u32
     ensures { λ r. ⌜ r ≡ offerCode offer ⌝ }
 {
@@ -97,13 +99,21 @@ fn same(a: bool, b: bool) -> bool
     !b
 }
 
+// Something is said exactly where a special register is asked for.
+pub(crate) fn fits_special(inquiry: Inquiry, special: Special) -> bool
+    ensures { λ r. ⌜ r ≡ fitsSpecial inquiry special ⌝ }
+{
+    same(inquiry.is_some(), special.is_some())
+}
+
 impl Given {
-    // 1, 2, 3 or 4.
-    pub(crate) fn code(self, fetch: bool, mode: Mode, load: bool) -> u32
-        ensures { λ r. ⌜ r ≡ codeOf (givenTests fetch mode load self) ⌝ }
+    // 1, 3, 4 or 10.
+    pub(crate) fn code(self, fetch: bool, mode: Mode, load: bool, inquiry: Inquiry) -> u32
+        ensures { λ r. ⌜ r ≡ codeOf (givenTests fetch mode load inquiry self) ⌝ }
     {
         let offer = self.offer;
         let answer = self.answer;
+        let special = self.special;
         let k = offer_code(offer);
         if 0 < k {
             return k;
@@ -113,6 +123,9 @@ impl Given {
         }
         if !same(load, is_answer(answer)) {
             return 4;
+        }
+        if !fits_special(inquiry, special) {
+            return 10;
         }
         0
     }

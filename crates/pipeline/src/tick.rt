@@ -20,6 +20,7 @@ use crate::Plan;
 use crate::Stages;
 use crate::Taken;
 use crate::Ticked;
+use isa::Inquiry;
 use isa::Instruction;
 use isa::Mode;
 use isa::RawInstr;
@@ -86,9 +87,11 @@ impl Given {
     {
         let offer = self.offer;
         let answer = self.answer;
+        let special = self.special;
         Taken {
             answer: word_in(answer),
             raw: raw_of(offer),
+            special,
         }
     }
 }
@@ -123,7 +126,7 @@ impl PipelineCpu {
         requires { ⌜ awake (self .stages) ≡ false ⌝ }
         ensures { λ r. ⌜ r ≡ tickedOn self t ⌝ }
     {
-        let k = t.code(false, Mode::Normal, false);
+        let k = t.code(false, Mode::Normal, false, Inquiry::None);
         if 0 < k {
             return self.refused(k);
         }
@@ -143,7 +146,7 @@ impl PipelineCpu {
     {
         let m = s.mem_wb;
         let c = self.counts;
-        let k = t.code(false, Mode::Normal, s.loads());
+        let k = t.code(false, Mode::Normal, s.loads(), Inquiry::None);
         if 0 < k {
             return self.refused(k);
         }
@@ -164,7 +167,8 @@ impl PipelineCpu {
         let place = plan.place;
         let mode = place.mode;
         let step = plan.step;
-        let k = t.code(s.fetches(plan), mode, s.loads());
+        let inquiry = plan.inquiry;
+        let k = t.code(s.fetches(plan), mode, s.loads(), inquiry);
         if 0 < k {
             return self.refused(k);
         }

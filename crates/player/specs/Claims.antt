@@ -4,11 +4,13 @@
 use Prim.Native.Nat.{_≤_, ℕ}
 use lib.ListN.{drop, length}
 use mathlib.Core.Bool.{false, true}
+use mathlib.Core.List.{List}
 use mathlib.Core.Path.{_≡_}
 use Rattle.isa.specs.Machine.{Arch, Program, effectAt, instructionAt, isBarred, isEmpty, machine}
 use Rattle.isa.specs.Operands.{operandsOf}
-use Rattle.player.specs.Names.{PlayHalted, PlayLoads, PlaySpent, PlayStopped}
-use Rattle.player.specs.Player.{Play, loadsIn, play}
+use Rattle.sheet.specs.Sheet.{SheetWithout}
+use Rattle.player.specs.Names.{PlayHalted, PlayLoads, PlaySpent, PlayStopped, Start}
+use Rattle.player.specs.Player.{Play, loadsIn, play, played}
 use Rattle.player.specs.Rows.{Rows}
 
 -- A play of at most n instructions from w, as the one-at-a-time machine tells it: what the play ends with is the
@@ -32,7 +34,14 @@ pub record IsMachine (g : Program) (w : Arch) (n : ℕ) (p : Play) : Type 0 wher
 abbrev pub PlayIs : Type 0
 PlayIs = (g : Program) (w : Arch) (n : ℕ) → IsMachine g w n (play g n false w)
 
+-- A sheet without MFSR plays the same whatever the table.
+abbrev pub AnyTable : Type 0
+AnyTable =
+    (v : Start) (sheet l t t′ : List ℕ) → SheetWithout sheet → (limit : ℕ)
+    → played v sheet l t limit ≡ played v sheet l t′ limit
+
 -- Everything claimed; proved in proofs/Claims.antt.
 pub record Claims : Type 0 where
   pub machine : PlayIs
+  pub anyTable : AnyTable
   pub rows : Rows

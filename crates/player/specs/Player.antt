@@ -57,12 +57,13 @@ unfoldable pub refusedPlay : ℕ → Start → Played
 refusedPlay n v = record { end = PlayRefused n; values = v; done = 0; used = 0 }
 
 -- any other takes its turns from the start's values, with R0 0
-unfoldable pub unrefusedPlay : Start → List ℕ → List ℕ → ℕ → Played
-unrefusedPlay v sheet answers limit =
-    reported v (play (programOf (sheetSource sheet) v) limit false (archWith v answers))
+unfoldable pub unrefusedPlay : Start → List ℕ → List ℕ → List ℕ → ℕ → Played
+unrefusedPlay v sheet answers table limit =
+    reported v (play (programOf (sheetSource sheet table) v) limit false (archWith v answers))
 
--- the player: a start's values, a sheet's bytes, load answers and a limit; 6, per record 5, 1, 2, then 7
-unfoldable pub played : Start → List ℕ → List ℕ → ℕ → Played
-played v sheet answers limit =
+-- the player: a start's values, a sheet's bytes, load answers, a table of special registers and a limit; 6, per record
+-- 5, 1, then 7
+unfoldable pub played : Start → List ℕ → List ℕ → List ℕ → ℕ → Played
+played v sheet answers table limit =
     cond (ltb 0 (limitedCode sheet limit)) (refusedPlay (limitedCode sheet limit) v)
-    (unrefusedPlay v sheet answers limit)
+    (unrefusedPlay v sheet answers table limit)

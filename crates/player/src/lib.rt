@@ -1,9 +1,10 @@
-// The plain player: the one-at-a-time machine over a sheet, load answers and a limit on instructions.
+// The plain player: the one-at-a-time machine over a sheet, load answers, a table of special registers and a limit on
+// instructions.
 //
 // Wrong programs that the promise of `play` rules out. A name in brackets is the must-fail edit that tries one:
 // spent before halted (spent_before_halted); loads before stopped (loads_before_stopped); HALT not counted
 // (halt_not_counted); the stopping instruction done (stopping_one_done); an answer used twice (answer_used_twice);
-// R0 as it was handed in (r0_kept); a refusal with R0 put to 0.
+// R0 as it was handed in (r0_kept); a refusal with R0 put to 0; an MFSR outside its table done.
 ghost use Prim.Native.Nat.{_≤_};
 ghost use mathlib.Core.Bool.{cond};
 ghost use mathlib.Core.Path.{_≡_};
@@ -101,26 +102,27 @@ fn report(
 }
 
 // The turns of a play that was not refused before its first.
-fn turns(v: Start, sheet: &[u8], answers: &[u32], limit: u32) -> Played
+fn turns(v: Start, sheet: &[u8], answers: &[u32], table: &[u32], limit: u32) -> Played
     requires { ⌜ limit ≤ 1000000 ⌝ }
-    ensures { λ r. ⌜ r ≡ unrefusedPlay v (now (sheet .entry)) (now (answers .entry)) limit ⌝ }
+    ensures { λ r. ⌜ r ≡
+        unrefusedPlay v (now (sheet .entry)) (now (answers .entry)) (now (table .entry)) limit ⌝ }
 {
     let mut reg = v.reg;
     reg[0] = 0;
     let mut pc = v.pc;
     let mut mode = v.mode;
-    let mut table = [Slot::at(sheet, pc, mode); 512];
+    let mut slots = [Slot::at(sheet, pc, mode); 512];
     let mut used: usize = 0;
     let mut done: u32 = 0;
     while done < limit {
         let k = place_of(pc);
-        let s = table[k];
+        let s = slots[k];
         if !s.is_at(pc, mode) {
-            table[k] = Slot::at(sheet, pc, mode);
+            slots[k] = Slot::at(sheet, pc, mode);
             continue;
         }
         let o = s.operands;
-        let e = s.effect(v.user, &reg);
+        let e = s.effect(v.user, table, &reg);
         let barred = is_barred(e);
         if barred | (o.is_load & (answers.len() <= used)) {
             return report(stop_of(barred), v, reg, pc, mode, done, used);
@@ -140,9 +142,9 @@ fn turns(v: Start, sheet: &[u8], answers: &[u32], limit: u32) -> Played
     report(PlayerEnd::Spent, v, reg, pc, mode, done, used)
 }
 
-// Plays a sheet from a start's values to its end.
-pub fn play(start: Start, sheet: &[u8], answers: &[u32], limit: u32) -> Played
-    ensures { λ r. ⌜ r ≡ played start (now (sheet .entry)) (now (answers .entry)) limit ⌝ }
+// Plays a sheet from a start's values to its end; `table` has the words of the special registers.
+pub fn play(start: Start, sheet: &[u8], answers: &[u32], table: &[u32], limit: u32) -> Played
+    ensures { λ r. ⌜ r ≡ played start (now (sheet .entry)) (now (answers .entry)) (now (table .entry)) limit ⌝ }
 {
     let k = check_limited(sheet, limit);
     if 0 < k {
@@ -153,5 +155,5 @@ pub fn play(start: Start, sheet: &[u8], answers: &[u32], limit: u32) -> Played
             used: 0,
         };
     }
-    turns(start, sheet, answers, limit)
+    turns(start, sheet, answers, table, limit)
 }

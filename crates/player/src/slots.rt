@@ -6,6 +6,7 @@ use isa::Effect;
 use isa::Mode;
 use isa::registers::read_reg;
 use sheet::offer::offer_at;
+use sheet::specials::special_at;
 
 impl Slot {
     // The slot of an address and mode.
@@ -31,19 +32,21 @@ impl Slot {
         (self.pc == pc) & (own.size() == mode.size())
     }
 
-    // What its instruction does with the registers.
-    pub(crate) fn effect(self, user: bool, reg: &[u32; 32]) -> Effect
-        ensures { λ r. ⌜ r ≡ effectIn user self (now (reg .entry)) ⌝ }
+    // What its instruction does with the registers and a table of special registers.
+    pub(crate) fn effect(self, user: bool, table: &[u32], reg: &[u32; 32]) -> Effect
+        ensures { λ r. ⌜ r ≡ effectIn user (now (table .entry)) self (now (reg .entry)) ⌝ }
     {
         let i = self.instr;
         let o = self.operands;
         let a = read_reg(reg, o.src_a);
         let b = read_reg(reg, o.src_b);
-        i.effect(user, self.pc, a, b)
+        let e = i.effect(user, self.pc, a, b);
+        let inquiry = e.inquiry;
+        e.filled(special_at(table, inquiry))
     }
 }
 
-// Its place in the table.
+// Its place among the slots.
 pub(crate) fn place_of(pc: u32) -> usize
     ensures { λ r. ⌜ r ≡ placeOf pc ⌝ }
 {

@@ -1,12 +1,13 @@
 // Plays a sheet so many times from the start of RULES 20.1, and writes the sum of the instructions done. Standard
-// input: rounds and limit on instructions, four bytes each, high byte first, then the sheet. Every load answer is 0.
+// input: rounds and limit on instructions, four bytes each, high byte first, then the sheet. Every load answer is 0, and
+// there is no special register.
 use isa::Start;
 
 fn total(rounds: u32, limit: u32, sheet: &[u8], answers: &[u32]) -> u64 {
     let mut left = rounds;
     let mut sum: u64 = 0;
     while left > 0 {
-        let p = player::play(Start::zero(), sheet, answers, limit);
+        let p = player::play(Start::zero(), sheet, answers, &answers[..0], limit);
         sum = std::num::wrapping_add_u64(sum, p.done as u64);
         left -= 1;
     }

@@ -95,17 +95,15 @@ refusal-length : (n first : ℕ) (m : MemWb) → length (refusalBy n first m) �
 unfolding refusalBy
 refusal-length n first m = split (eqb n 1)
     (λ e. rw e (explained-length first 1 (ascii "it names a register above 31") (omega arith)))
-    (λ a. split (eqb n 2)
-    (λ e. rw (a, e) (explained-length first 2 (ascii "it is MFSR") (omega arith)))
-    (λ b. split (eqb n 5)
-    (λ e. rw (a, b, e) (explained-length first 5 (ascii "no such command, or a byte is not 0 where it must be")
+    (λ a. split (eqb n 5)
+    (λ e. rw (a, e) (explained-length first 5 (ascii "no such command, or a byte is not 0 where it must be")
     (omega arith)))
     (λ c. split (eqb n 6)
-    (λ e. rw (a, b, c, e) (omega arith))
+    (λ e. rw (a, c, e) (omega arith))
     (λ d. split (eqb n 12)
-    (λ e. rw (a, b, c, d, e)
+    (λ e. rw (a, c, d, e)
     (explained-length (m .pc) 12 (faultReason (m .exception) (m .iret)) (fault-length (m .exception) (m .iret))))
-    (λ e. rw (a, b, c, d, e) (omega (arith, line-length (ascii "tickrun: refused") n)))))))
+    (λ e. rw (a, c, d, e) (omega (arith, line-length (ascii "tickrun: refused") n))))))
 
 short-refusal : (e : End) (sheet : List ℕ) (m : MemWb) → length (refusalText e sheet m) ≤ 139
 unfolding refusalText

@@ -40,4 +40,4 @@ pub record Claims : Type 0 where
   pub cleared : registerLine 31 0 ≡ []
   -- a refused record at address 2748
   pub record687 : (m : MemWb)
-      → refusalBy 2 2748 m ≡ ascii "tickrun: record 687, address 0ABC: refused 2, it is MFSR\n"
+      → refusalBy 1 2748 m ≡ ascii "tickrun: record 687, address 0ABC: refused 1, it names a register above 31\n"

@@ -33,18 +33,17 @@ explained pc n why =
 unfoldable pub faultReason : Exception → Bool → List ℕ
 faultReason NoException iret = cond iret (ascii "it is IRET") (ascii "it is MTSR")
 faultReason PrivilegedInstruction iret = ascii "it is privileged"
-faultReason IllegalInstruction iret = ascii "no instruction stands there"
+faultReason IllegalInstruction iret = ascii "no such instruction, or no such special register"
 faultReason (SyscallException imm) iret = ascii "it is SYSCALL"
 
 -- by the number, the address of the first refused record, and the latch that holds what retires next
 unfoldable pub refusalBy : ℕ → ℕ → MemWb → List ℕ
 refusalBy n first m =
     cond (eqb n 1) (explained first 1 (ascii "it names a register above 31"))
-    (cond (eqb n 2) (explained first 2 (ascii "it is MFSR"))
     (cond (eqb n 5) (explained first 5 (ascii "no such command, or a byte is not 0 where it must be"))
     (cond (eqb n 6) (ascii "tickrun: refused 6, the number of bytes is above 20480 or not divisible by 5\n")
     (cond (eqb n 12) (explained (m .pc) 12 (faultReason (m .exception) (m .iret)))
-    (line (ascii "tickrun: refused") n)))))
+    (line (ascii "tickrun: refused") n))))
 
 -- by the run's end; a sheet that is not too long has at most 4,096 records
 unfoldable pub refusalText : End → List ℕ → MemWb → List ℕ

@@ -3,7 +3,7 @@
 // Wrong programs that the promises rule out:
 // - write: R31 never written; the stalls for the flushes; `end spend`; 12 for the number of every refusal; a byte behind
 //   the text changed.
-// - explain: a record counted as five addresses; the reason of 2 for 1.
+// - explain: a record counted as five addresses; the reason of 5 for 1.
 ghost use mathlib.Core.Path.{_≡_};
 ghost use Rattle.report.specs.Refusal.{refusalOf};
 ghost use Rattle.report.specs.Text.{reportText};

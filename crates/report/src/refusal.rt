@@ -81,7 +81,12 @@ fn put_fault(out: &mut [u8], pc: u32, exception: Exception, iret: bool) -> usize
             put_explained(out, pc, 12, b"it is MTSR")
         }
         Exception::PrivilegedInstruction => put_explained(out, pc, 12, b"it is privileged"),
-        Exception::IllegalInstruction => put_explained(out, pc, 12, b"no instruction stands there"),
+        Exception::IllegalInstruction => put_explained(
+            out,
+            pc,
+            12,
+            b"no such instruction, or no such special register",
+        ),
         Exception::Syscall(_) => put_explained(out, pc, 12, b"it is SYSCALL"),
     }
 }
@@ -92,7 +97,6 @@ fn put_refused(out: &mut [u8], n: u32, first: u32, m: MemWb) -> usize
 {
     match n {
         1 => put_explained(out, first, 1, b"it names a register above 31"),
-        2 => put_explained(out, first, 2, b"it is MFSR"),
         5 => put_explained(
             out,
             first,

@@ -1,6 +1,6 @@
 // Runs a sheet so many times from the start of RULES 20.1, and writes the sum of the ticks used and the sum of the
 // instructions retired. Standard input: rounds and tick limit, four bytes each, high byte first, then the sheet.
-// Every load answer is 0.
+// Every load answer is 0, and there is no special register.
 use isa::Start;
 use pipeline::PipelineCpu;
 
@@ -15,7 +15,13 @@ fn total(rounds: u32, limit: u32, sheet: &[u8], answers: &[u32]) -> Totals {
     let mut ticks: u32 = 0;
     let mut instructions: u64 = 0;
     while left > 0 {
-        let r = runner::run(PipelineCpu::start(Start::zero()), sheet, answers, limit);
+        let r = runner::run(
+            PipelineCpu::start(Start::zero()),
+            sheet,
+            answers,
+            &answers[..0],
+            limit,
+        );
         let s = r.state;
         let c = s.counts;
         ticks = std::num::wrapping_add_u32(ticks, r.ticks);

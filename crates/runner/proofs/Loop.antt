@@ -51,7 +51,7 @@ later-ended t e s =
     let z : t + 0 ≡ t = omega arith in ap (λ (n : ℕ). record { end = e; ticks = n; state = s }) z
 
 -- a turn from state s with k answers used and t ticks done; u: what it does; b: whether its tick loads
-module _ (src : Source) (fair : Fair (src .raw)) (limit : ℕ) (l : List ℕ) (s₀ s : PipelineCpu) (k t : ℕ)
+module _ (src : Source) (fair : Fair src) (limit : ℕ) (l : List ℕ) (s₀ s : PipelineCpu) (k t : ℕ)
     (h : Holds src limit l s₀ s k t) (u : Turn) (turn-is : u ≡ turnOf (s .stages) (s .counts) (eqb t limit) (leb
     (length l) k)) where
   -- the run that is left ends here

@@ -4,12 +4,13 @@ use lib.ListN.{drop, length}
 use mathlib.Core.Bool.{cond, false}
 use mathlib.Core.List.{List}
 use mathlib.Core.Path.{_≡_}
+use Rattle.isa.specs.Inquiries.{lookUp}
 use Rattle.isa.specs.Machine.{Source}
 use Rattle.pipeline.specs.Plans.{planFetches}
 use Rattle.pipeline.specs.Refusals.{outOfBounds}
 use Rattle.runs.specs.Run.{Played, play, reported}
 use Rattle.sheet.specs.Sheet.{sheetCode}
-use Rattle.runner.specs.Names.{Counters, End, Nop, PipelineCpu, Plan, Ran, RawNormal, Stages, Taken}
+use Rattle.runner.specs.Names.{Counters, End, Nop, PipelineCpu, Plan, Ran, RawNormal, Special, Stages, Taken}
 
 -- what is reported where t ticks were done before
 unfoldable pub later : ℕ → Played → Ran
@@ -33,10 +34,14 @@ unfoldable pub ranTo : End → ℕ → List ℕ → Stages → Counters → Ran
 ranTo e t rs l c = record { end = e; ticks = t; state = record { reg = rs; stages = l; counts = c } }
 
 -- what a tick takes in that is offered nothing; a NOP stands for it
-unfoldable pub unoffered : ℕ → Taken
-unoffered v = record { answer = v; raw = RawNormal Nop }
+unfoldable pub unoffered : ℕ → Special → Taken
+unoffered v c = record { answer = v; raw = RawNormal Nop; special = c }
 
 -- what a plan takes in
 unfoldable pub offeredBy : Stages → Plan → Source → ℕ → Taken
 offeredBy l p src v = cond (planFetches l p)
-    (record { answer = v; raw = src .raw ((p .place) .pc) ((p .place) .mode) }) (unoffered v)
+    (record {
+      answer = v;
+      raw = src .raw ((p .place) .pc) ((p .place) .mode);
+      special = lookUp (src .table) (p .inquiry);
+    }) (unoffered v (lookUp (src .table) (p .inquiry)))

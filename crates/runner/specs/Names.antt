@@ -1,6 +1,8 @@
 -- The declared types and constructors that this crate names, each under the name that the declaring crate gives it.
 pub use Rattle.isa.specs.declared.Instruction.the-variants.{Nop}
 pub use Rattle.isa.specs.declared.RawInstr.the-variants.{Normal as RawNormal}
+pub use Rattle.isa.specs.declared.Special.{Special}
+pub use Rattle.isa.specs.declared.Special.the-variants.{None as Unsaid}
 pub use Rattle.sheet.specs.declared.End.{End}
 pub use Rattle.sheet.specs.declared.Turn.{Turn}
 pub use Rattle.sheet.specs.declared.Turn.the-variants.{Ends, Ticks}

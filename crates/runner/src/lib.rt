@@ -1,7 +1,9 @@
-// The runner: a state, a sheet, load answers and a tick limit in; the end, the ticks used and the state then out.
+// The runner: a state, a sheet, load answers, a table of special registers and a tick limit in; the end, the ticks used
+// and the state then out.
 //
 // Wrong programs that the promise of `run` rules out: ticks reported one off; a state after a late refusal that is not
-// the one before the refused tick; 11 before 7; an answer used twice; a halted run reported as spent.
+// the one before the refused tick; 11 before 7; an answer used twice; a halted run reported as spent; a special register
+// looked up in an empty table.
 ghost use mathlib.Core.Bool.{cond};
 ghost use mathlib.Core.Path.{_≡_};
 ghost use lib.ListN.{getD};
@@ -12,6 +14,7 @@ ghost use Rattle.sheet.specs.Turns.{usedAfter};
 ghost use Rattle.runner.specs.Inner.{Ready, offeredBy, ranTo, unoffered};
 use isa::Instruction;
 use isa::RawInstr;
+use isa::Special;
 use isa::registers::sel;
 use pipeline::Counters;
 use pipeline::Move;
@@ -26,6 +29,7 @@ use sheet::answers;
 use sheet::answers::answer_at;
 use sheet::check::check_limited;
 use sheet::offer::offer_at;
+use sheet::specials::special_at;
 use sheet::turns::turn_by;
 
 // The answer that a tick takes in: the next one where it loads.
@@ -56,26 +60,33 @@ fn next_turn(s: Stages, c: Counters, spent: bool, none: bool) -> Turn
 }
 
 // What a tick takes in that is offered nothing; a NOP stands for it, and is not looked at.
-fn unoffered(answer: u32) -> Taken
-    ensures { λ r. ⌜ r ≡ unoffered answer ⌝ }
+fn unoffered(answer: u32, special: Special) -> Taken
+    ensures { λ r. ⌜ r ≡ unoffered answer special ⌝ }
 {
     Taken {
         answer,
         raw: RawInstr::Normal(Instruction::Nop),
+        special,
     }
 }
 
-// What a plan takes in: what the sheet offers, where it fetches.
-fn offered(l: Stages, plan: Plan, sheet: &[u8], answer: u32) -> Taken
-    ensures { λ r. ⌜ r ≡ offeredBy l plan (sheetSource (now (sheet .entry))) answer ⌝ }
+// What a plan takes in: what the sheet offers, where it fetches, and what the table says, where it asks.
+fn offered(l: Stages, plan: Plan, sheet: &[u8], table: &[u32], answer: u32) -> Taken
+    ensures { λ r. ⌜ r ≡ offeredBy l plan (sheetSource (now (sheet .entry)) (now (table .entry))) answer ⌝ }
 {
+    let inquiry = plan.inquiry;
+    let special = special_at(table, inquiry);
     if l.fetches(plan) {
         let place = plan.place;
         let mode = place.mode;
         let raw = offer_at(sheet, place.pc, mode);
-        return Taken { answer, raw };
+        return Taken {
+            answer,
+            raw,
+            special,
+        };
     }
-    unoffered(answer)
+    unoffered(answer, special)
 }
 
 // The report of a run that ends here.
@@ -91,9 +102,10 @@ fn report(end: End, ticks: u32, reg: [u32; 32], stages: Stages, counts: Counters
 }
 
 // The turns of a run that was not refused before its first.
-fn play(state: PipelineCpu, sheet: &[u8], answers: &[u32], limit: u32) -> Ran
+fn play(state: PipelineCpu, sheet: &[u8], answers: &[u32], table: &[u32], limit: u32) -> Ran
     requires { ⌜ Ready (now sheet) limit state ⌝ }
-    ensures { λ r. ⌜ r ≡ reported (play (sheetSource (now (sheet .entry))) limit (now (answers .entry)) state) ⌝ }
+    ensures { λ r. ⌜ r ≡
+        reported (play (sheetSource (now (sheet .entry)) (now (table .entry))) limit (now (answers .entry)) state) ⌝ }
 {
     let mut reg = state.reg;
     let mut s = state.stages;
@@ -113,12 +125,12 @@ fn play(state: PipelineCpu, sheet: &[u8], answers: &[u32], limit: u32) -> Ran
                 let l = s.retire(&mut reg);
                 let m = l.mem_wb;
                 if l.waits_on() {
-                    s = l.wait(unoffered(answer));
+                    s = l.wait(unoffered(answer, Special::None));
                     c = c.count(m.valid, Move::KeepWaiting);
                 } else {
                     let plan = l.plan(&reg);
                     let step = plan.step;
-                    s = l.advance(plan, offered(l, plan, sheet, answer), &reg);
+                    s = l.advance(plan, offered(l, plan, sheet, table, answer), &reg);
                     c = c.count(m.valid, step);
                 }
             }
@@ -127,7 +139,7 @@ fn play(state: PipelineCpu, sheet: &[u8], answers: &[u32], limit: u32) -> Ran
     report(End::Spent, ticks, reg, s, c)
 }
 
-// 6, per record 5, 1, 2; then 7 and 11.
+// 6, per record 5, 1; then 7 and 11.
 fn code(state: PipelineCpu, sheet: &[u8], limit: u32) -> u32
     ensures { λ r. ⌜ r ≡ runCode state (now (sheet .entry)) limit ⌝ }
 {
@@ -142,9 +154,9 @@ fn code(state: PipelineCpu, sheet: &[u8], limit: u32) -> u32
     0
 }
 
-// Runs a sheet from a state to its end.
-pub fn run(state: PipelineCpu, sheet: &[u8], answers: &[u32], limit: u32) -> Ran
-    ensures { λ r. ⌜ r ≡ ran state (now (sheet .entry)) (now (answers .entry)) limit ⌝ }
+// Runs a sheet from a state to its end; `table` has the words of the special registers.
+pub fn run(state: PipelineCpu, sheet: &[u8], answers: &[u32], table: &[u32], limit: u32) -> Ran
+    ensures { λ r. ⌜ r ≡ ran state (now (sheet .entry)) (now (answers .entry)) (now (table .entry)) limit ⌝ }
 {
     let k = code(state, sheet, limit);
     if 0 < k {
@@ -154,5 +166,5 @@ pub fn run(state: PipelineCpu, sheet: &[u8], answers: &[u32], limit: u32) -> Ran
             state,
         };
     }
-    play(state, sheet, answers, limit)
+    play(state, sheet, answers, table, limit)
 }

@@ -39,7 +39,7 @@ pub record HaltsWith (N : ℕ) (p : Played) : Type 0 where
   pub end : p .end ≡ Halted
   pub retired : p .state .counts .«instructions_executed» ≡ N
 
-module _ (src : Source) (ok : Fair (src .raw)) (v : Start) (w : Arch)
+module _ (src : Source) (ok : Fair src) (v : Start) (w : Arch)
     (len : length (w .reg) ≡ 32) (nought : getD (w .reg) 0 0 ≡ 0) (K : ℕ)
     (did : (machine (programOf src v) w (suc K)) .done ≡ suc K)
     (down : (machine (programOf src v) w (suc K)) .runs ≡ false) where
@@ -129,7 +129,7 @@ module _ (src : Source) (ok : Fair (src .raw)) (v : Start) (w : Arch)
       (λ j m₁ m₂ t′ h′ lv′ c′. halts-on n l′ r′ j m₁ m₂ t′ y′ h′ lv′ c′)))
 
 -- from the start; N is not 0, since the machine runs before its first step
-pub run-halts : (src : Source) → Fair (src .raw)
+pub run-halts : (src : Source) → Fair src
     → (v : Start) → length (v .reg) ≡ 32
     → (limit : ℕ) (l : List ℕ) → limit ≤ 1000000
     → (N : ℕ) → (machine (programOf src v) (archWith v l) N) .done ≡ N

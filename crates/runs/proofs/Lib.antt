@@ -8,5 +8,6 @@ pub mod Due
 pub mod Unstopped
 pub mod Halts
 pub mod Rows
+pub mod Without
 pub mod Sheets
 pub mod Claims

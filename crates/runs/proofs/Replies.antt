@@ -4,18 +4,20 @@ use mathlib.Core.Bool.{Bool, cond, false, true}
 use mathlib.Core.Path.{_≡_, refl}
 use Rattle.accuracy.proofs.Bounds.{tick-in}
 use Rattle.accuracy.proofs.Took.{takes}
+use Rattle.isa.specs.Inquiries.{isInquiry, isSaid, lookUp}
 use Rattle.isa.specs.Machine.{Source}
 use Rattle.isa.specs.Refusals.{isOf, rawCode}
 use Rattle.pipeline.specs.Advance.{next}
-use Rattle.pipeline.specs.Ask.{fetchAt, wantFetch, wantLoad}
+use Rattle.pipeline.specs.Ask.{fetchAt, wantFetch, wantLoad, wantSpecial}
 use Rattle.pipeline.specs.Counting.{counterFull}
 use Rattle.pipeline.specs.Refusals.{faulty, outOfBounds}
-use Rattle.pipeline.specs.Tick.{fitsOffer, isAnswer, moved, offerCode, same, taken, tick}
+use Rattle.pipeline.specs.Tick.{fitsOffer, fitsSpecial, isAnswer, moved, offerCode, same, taken, tick}
 use Rattle.pipeline.specs.Turn.{reply}
 use Rattle.sheet.proofs.Fair.{Fair}
-use Rattle.runs.specs.Names.{Instr, Mode, NoAnswer, Nothing, PipelineCpu, RawInstr, Word}
+use Rattle.runs.specs.Names.{Inquiry, Instr, Mode, NoAnswer, NoInquiry, Nothing, Of, PipelineCpu, RawInstr}
+use Rattle.runs.specs.Names.{Special, Word}
 
--- refusals 1 and 2 do not arise
+-- refusal 1 does not arise
 no-code : (b : Bool) (i : RawInstr) → rawCode i ≡ 0 → offerCode (cond b (Instr i) Nothing) ≡ 0
 unfolding offerCode
 no-code true i e = e
@@ -33,8 +35,14 @@ unfolding same isAnswer
 fit-answer true v = refl
 fit-answer false v = refl
 
+-- refusal 10 does not arise
+fit-special : (t : ℕ → Special) (q : Inquiry) → ((n : ℕ) → isSaid (t n) ≡ true) → fitsSpecial q (lookUp t q) ≡ true
+unfolding fitsSpecial same isInquiry isSaid lookUp
+fit-special t NoInquiry h = refl
+fit-special t (Of n) h = h n
+
 -- a state in bounds, not at 12 and with room in its counters takes the tick that a fair program answers
-pub goes-reply : (src : Source) → Fair (src .raw)
+pub goes-reply : (src : Source) → Fair src
     → (s : PipelineCpu) (v : ℕ) → outOfBounds (s .stages) ≡ false → faulty (s .stages) ≡ false → counterFull
     (s .counts) ≡ false
     → tick s (reply src v s) ≡ moved (next s (taken (reply src v s)))
@@ -46,11 +54,12 @@ goes-reply src f s v a b c = takes s (reply src v s) (next s (taken (reply src v
   fair = no-code (wantFetch s) _ (f .code ((fetchAt s) .pc) ((fetchAt s) .mode));
   fetch = fit-offer (wantFetch s) ((fetchAt s) .mode) _ (f .kind ((fetchAt s) .pc) ((fetchAt s) .mode));
   «is_load» = fit-answer (wantLoad (s .stages)) v;
+  special = fit-special (src .table) (wantSpecial s) (f .said);
   is = refl;
 })
 
 -- the state after that tick is in bounds too
-pub stays-in : (src : Source) → Fair (src .raw)
+pub stays-in : (src : Source) → Fair src
     → (s : PipelineCpu) (v : ℕ) → outOfBounds (s .stages) ≡ false → faulty (s .stages) ≡ false → counterFull
     (s .counts) ≡ false
     → outOfBounds ((next s (taken (reply src v s))) .stages) ≡ false

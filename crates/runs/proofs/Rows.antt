@@ -1,11 +1,12 @@
 -- The rows, by computation. Assumes nothing.
 use mathlib.Core.Path.{refl}
-use Rattle.isa.specs.Effect.{branches, effectN, effectOf, effectS, fall, gives, goesBy, goesOn, identifies, jumps}
-use Rattle.isa.specs.Effect.{links, marked, noAccess, noMarks, noResult, nothing, privileged, raises, reaches, resumes}
-use Rattle.isa.specs.Effect.{sets, size, stops, written}
+use Rattle.isa.specs.Effect.{branches, effectN, effectOf, effectS, fall, gives, goesBy, goesOn, identifies, inquires}
+use Rattle.isa.specs.Effect.{jumps, links, marked, noAccess, noMarks, noResult, nothing, privileged, raises, reaches}
+use Rattle.isa.specs.Effect.{resumes, sets, size, stops, written}
+use Rattle.isa.specs.Inquiries.{fill, isInquiry, isSaid, lookUp, mfsrWith}
 use Rattle.isa.specs.Machine.{destOf, first, isEmpty, rest, zeroStart}
 use Rattle.isa.specs.Operands.{bare, binary, branching, gpr, loading, okDest, okOperands, operandsN, operandsOf}
-use Rattle.isa.specs.Operands.{operandsS, plain, reads, special, storing, unary, writes}
+use Rattle.isa.specs.Operands.{operandsS, plain, reads, storing, unary, writes}
 use Rattle.isa.specs.Redirects.{isException, isMtsr, isTo, modeOr, newModeOr, targetOr}
 use Rattle.isa.specs.Refusals.{decodedCode, instructionCode, isOf, rawCode}
 use Rattle.isa.specs.Registers.{isDest, isNamed, isReg, putReg, readReg}
@@ -20,47 +21,49 @@ use Rattle.latch.specs.Memory.{destAfter, loads, memWbOf, passedOn, stores, val
 use Rattle.latch.specs.Retire.{halts, isFaulty, retireCpuid, retireReg, retiredMode, retiredPc, retiredRegs}
 use Rattle.pipeline.specs.Advance.{advance, advanceBy, advanceStages, awake, idExAfter, ifIdAfter, next, placeAfter}
 use Rattle.pipeline.specs.Advance.{resting, waitAfter}
-use Rattle.pipeline.specs.Ask.{fetchAt, loadsIn, wantFetch, wantLoad}
+use Rattle.pipeline.specs.Ask.{fetchAt, loadsIn, wantFetch, wantLoad, wantSpecial}
 use Rattle.pipeline.specs.Counting.{countIdle, countRetired, counted, counterFull, flushes, isFull, stalls}
-use Rattle.pipeline.specs.Execute.{effectFor, executed, executedBy, redirectBy, redirectOf}
+use Rattle.pipeline.specs.Execute.{effectFor, executed, executedBy, inquiryBy, inquiryOf, redirectBy, redirectOf}
 use Rattle.pipeline.specs.Fetch.{fetchFrom, fetchPlace, fetched, fetches, nextIdEx, placeOr, predicted}
-use Rattle.pipeline.specs.Move.{beginsWait, freeMove, hazard, isSlow, isWait, move, moveFrom, nextExMem, proceedOr}
-use Rattle.pipeline.specs.Move.{waitsOn}
+use Rattle.pipeline.specs.Move.{beginsWait, freeMove, hazard, inquiryIn, isSlow, isWait, move, moveFrom, nextExMem}
+use Rattle.pipeline.specs.Move.{proceedOr, waitsOn}
 use Rattle.pipeline.specs.Refusals.{andThen, faulty, outOfBounds, stateTests}
 use Rattle.pipeline.specs.Retire.{retire, retireStages}
 use Rattle.pipeline.specs.Start.{fresh}
-use Rattle.pipeline.specs.Tick.{fitsOffer, givenTests, isAnswer, offerCode, rawOf, same, taken, tests, tick, verdict}
-use Rattle.pipeline.specs.Tick.{wordIn}
+use Rattle.pipeline.specs.Tick.{fitsOffer, fitsSpecial, givenTests, isAnswer, offerCode, rawOf, same, taken, tests}
+use Rattle.pipeline.specs.Tick.{tick, verdict, wordIn}
 use Rattle.pipeline.specs.Turn.{reply}
 use Rattle.sheet.specs.Records.{both, farOf, halfOf, jumpOf, lineIf, offsetOf, plainOf, recordOf, threeOf, within}
 use Rattle.sheet.specs.Records.{zeros}
+use Rattle.sheet.specs.Samples.{mfsrSheet, mfsrTable}
 use Rattle.sheet.specs.Sheet.{badLength, codeAt, firstCode, firstRefused, limitedCode, lineOffer, offerAt, offerIn}
-use Rattle.sheet.specs.Sheet.{pairOffer, recordAt, recordCode, sheetCode, unknownOf}
+use Rattle.sheet.specs.Sheet.{pairOffer, recordAt, recordCode, sheetCode, tableOf, unknownOf}
 use Rattle.sheet.specs.Turns.{turnBy}
 use Rattle.word.proofs.Rows.{rows as arithmetic}
 use Rattle.word.specs.Words.{add32, and32, bit, div32, divu32, ldih32, ldil32, mod32, mul32, mulh32, offset32, or32}
 use Rattle.word.specs.Words.{sll32, slt32, sltu32, sra32, srl32, sub32, xor32}
-use Rattle.runs.specs.Rows.{Rows, haltSheet, loadSheet, row, seen}
+use Rattle.runs.specs.Rows.{Rows, haltSheet, loadSheet, row, seen, tableRow, userStart}
 use Rattle.runs.specs.Run.{ended, leftAfter, more, play, playBy, ran, refusedRun, reported, runCode, turnOf}
 
 pub rows : Rows
 unfolding bit add32 sub32 offset32 and32 or32 xor32 sll32 srl32 sra32 slt32 sltu32 mul32 mulh32 div32 divu32 mod32
     ldil32 ldih32 size fall written noResult noAccess noMarks goesOn goesBy marked nothing gives reaches branches
-    jumps links stops resumes identifies raises sets privileged effectN effectS effectOf first rest isEmpty destOf gpr
-    plain bare writes unary binary reads loading storing branching special operandsN operandsS operandsOf okDest
-    okOperands isTo targetOr modeOr newModeOr isException isMtsr instructionCode rawCode decodedCode isOf isReg
-    readReg putReg isDest isNamed nibble lowBits shortBy decodeShort decodedOf waits isUsed isNegative predictBy
-    predict both zeros lineIf plainOf threeOf offsetOf halfOf jumpOf farOf within recordOf recordAt unknownOf
-    lineOffer pairOffer offerIn offerAt recordCode codeAt firstRefused firstCode badLength sheetCode turnBy badWidth
-    badIfId badIdEx badExMem badMemWb idExBy idExOf decodePredicted loadUse effectIn exMemOf mispredict operandB
-    effectFrom cpuidWord fromMemWb fromExMem forwardFrom emptyIfId emptyIdEx emptyExMem emptyMemWb cleared loads
-    stores destAfter writesAfter valueAfter passedOn memWbOf halts retireReg retireCpuid retiredRegs retiredPc
-    retiredMode isFaulty placeAfter ifIdAfter idExAfter waitAfter advanceBy advanceStages advance awake resting next
-    wantFetch fetchAt loadsIn wantLoad countRetired stalls flushes counted countIdle isFull counterFull effectFor
-    executedBy executed redirectBy redirectOf predicted placeOr fetchFrom fetchPlace fetches fetched nextIdEx waitsOn
-    hazard isSlow beginsWait proceedOr moveFrom freeMove move isWait nextExMem andThen outOfBounds faulty stateTests
-    retireStages retire zeroStart fresh offerCode fitsOffer isAnswer same rawOf wordIn taken verdict givenTests tests
-    tick reply seen row haltSheet loadSheet turnOf ended more playBy leftAfter play reported limitedCode runCode
+    jumps links stops resumes identifies raises sets inquires privileged effectN effectS effectOf isInquiry isSaid
+    mfsrWith fill lookUp first rest isEmpty destOf gpr plain bare writes unary binary reads loading storing branching
+    operandsN operandsS operandsOf okDest okOperands isTo targetOr modeOr newModeOr isException isMtsr instructionCode
+    rawCode decodedCode isOf isReg readReg putReg isDest isNamed nibble lowBits shortBy decodeShort decodedOf waits
+    isUsed isNegative predictBy predict both zeros lineIf plainOf threeOf offsetOf halfOf jumpOf farOf within recordOf
+    recordAt unknownOf lineOffer pairOffer offerIn offerAt tableOf recordCode codeAt firstRefused firstCode badLength
+    sheetCode turnBy badWidth badIfId badIdEx badExMem badMemWb idExBy idExOf decodePredicted loadUse effectIn exMemOf
+    mispredict operandB effectFrom cpuidWord fromMemWb fromExMem forwardFrom emptyIfId emptyIdEx emptyExMem emptyMemWb
+    cleared loads stores destAfter writesAfter valueAfter passedOn memWbOf halts retireReg retireCpuid retiredRegs
+    retiredPc retiredMode isFaulty placeAfter ifIdAfter idExAfter waitAfter advanceBy advanceStages advance awake
+    resting next wantFetch fetchAt loadsIn wantLoad wantSpecial countRetired stalls flushes counted countIdle isFull
+    counterFull effectFor executedBy executed inquiryBy inquiryOf redirectBy redirectOf predicted placeOr fetchFrom
+    fetchPlace fetches fetched nextIdEx waitsOn hazard isSlow beginsWait proceedOr moveFrom freeMove move isWait
+    nextExMem inquiryIn andThen outOfBounds faulty stateTests retireStages retire zeroStart fresh offerCode fitsOffer
+    isAnswer same fitsSpecial rawOf wordIn taken verdict givenTests tests tick reply seen row tableRow userStart
+    haltSheet loadSheet mfsrSheet mfsrTable turnOf ended more playBy leftAfter play reported limitedCode runCode
     refusedRun ran
 rows = record {
   halt = refl;
@@ -81,6 +84,14 @@ rows = record {
   behind = refl;
   short = refl;
   empty = refl;
+  mfsr = refl;
+  mfsrOutside = refl;
+  mfsrUser = refl;
+  mfsrBehindHalt = refl;
+  mfsrTwoBehindHalt = refl;
+  mfsrBehindUnknown = refl;
+  mfsrBehindLoad = refl;
+  mfsrIntoZero = refl;
   widths = refl;
   arithmetic = arithmetic;
 }

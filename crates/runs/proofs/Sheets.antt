@@ -19,22 +19,22 @@ use Rattle.runs.specs.Names.{PipelineCpu}
 use Rattle.runs.specs.Run.{play, ran, refusedRun, reported, runCode}
 
 -- the report of a run that is not refused before its first turn
-ran-is : (s : PipelineCpu) (sheet l : List ℕ) (limit : ℕ) → sheetCode sheet ≡ 0 → limit ≤ 1000000
+ran-is : (s : PipelineCpu) (sheet l table : List ℕ) (limit : ℕ) → sheetCode sheet ≡ 0 → limit ≤ 1000000
     → outOfBounds (s .stages) ≡ false
-    → ran s sheet l limit ≡ reported (play (sheetSource sheet) limit l s)
+    → ran s sheet l table limit ≡ reported (play (sheetSource sheet table) limit l s)
 unfolding ran runCode limitedCode
-ran-is s sheet l limit e h b = rw (e, le-ltb 1000000 limit h, b)
+ran-is s sheet l table limit e h b = rw (e, le-ltb 1000000 limit h, b)
 
 pub sheet-halts : SheetHalts
 unfolding reported
-sheet-halts sheet e v len limit l h N d r t =
-    let k = run-halts (sheetSource sheet) (sheet-fair sheet e) v len limit l h N d r t in
-    rw (ran-is (fresh v) sheet l limit e h (fresh-in v))
+sheet-halts sheet table e v len limit l h N d r t =
+    let k = run-halts (sheetSource sheet table) (sheet-fair sheet table e) v len limit l h N d r t in
+    rw (ran-is (fresh v) sheet l table limit e h (fresh-in v))
     (k .end, k .retired)
 
 pub sheet-halted : SheetHalted
 unfolding ran refusedRun reported
-sheet-halted sheet v len limit l =
+sheet-halted sheet table v len limit l =
     split (ltb 0 (runCode (fresh v) sheet limit))
     (λ a. rw a (λ e. absurd (let z : _≡_ {A = ℕ} 0 1 = cc in omega arith)))
-    (λ a. rw a (λ e. run-halted (sheetSource sheet) v len limit l e))
+    (λ a. rw a (λ e. run-halted (sheetSource sheet table) v len limit l e))

@@ -8,7 +8,7 @@ use mathlib.Core.Path.{_∙_, _≡_, ap, refl, subst, sym}
 use native.Mathlib.Omega.{arith}
 use Rattle.accuracy.proofs.Accuracy.{demand3-fed}
 use Rattle.accuracy.proofs.Feeding.{Fed, FeedsBy}
-use Rattle.accuracy.proofs.Offers.{AllMeet, Meets, reply-offer}
+use Rattle.accuracy.proofs.Offers.{AllMeet, Meets, reply-offer, reply-special}
 use Rattle.accuracy.specs.Accuracy.{Run, after, begin, one, oneBy}
 use Rattle.isa.specs.Machine.{Program, Source, first, isEmpty, programOf, zeroStart}
 use Rattle.pipeline.specs.Advance.{next}
@@ -31,10 +31,10 @@ module _ (src : Source) (v : Start) where
   abbrev P : Program
   P = programOf src v
 
-  -- a tick of the run offers the machine's instruction
+  -- a tick of the run offers the machine's instruction, and says what the machine is told
   pub meets : (s : PipelineCpu) (v : ℕ) → Meets P s (reply src v s)
   unfolding programOf
-  meets s v = record { offer = λ i e. reply-offer src v s i e }
+  meets s v = record { offer = λ i e. reply-offer src v s i e; special = λ n e. reply-special src v s n e }
 
   -- and feeds the machine the next answer left
   pub feeds : (s s′ : PipelineCpu) (l : List ℕ) → (wantLoad (s .stages) ≡ true → isEmpty l ≡ false)

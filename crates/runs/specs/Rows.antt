@@ -1,15 +1,18 @@
--- The rows of RULES 22.1, run from their sheets' bytes: one table, one claim.
+-- The rows of RULES 22.1 and 25.5, run from their sheets' bytes: one table, one claim.
 use Prim.Native.Nat.{ℕ}
-use lib.ListN.{getD}
+use lib.ListN.{getD, replicate}
 use mathlib.Core.Bool.{false, true}
 use mathlib.Core.List.{List, [], _∷_, map}
 use mathlib.Core.Path.{_≡_}
 use Rattle.isa.specs.Machine.{zeroStart}
 use Rattle.latch.specs.Bounds.{badWidth}
 use Rattle.pipeline.specs.Start.{fresh}
+use Rattle.sheet.specs.Samples.{mfsrSheet, mfsrTable}
+use Rattle.sheet.specs.Sheet.{sheetSource}
 use Rattle.word.specs.Rows.{Rows as Arithmetic}
-use Rattle.runs.specs.Names.{End, EndRefused, Halted, Loads, Ran, Spent}
-use Rattle.runs.specs.Run.{ran}
+use Rattle.runs.specs.Names.{End, EndRefused, Halted, Loads, NoSuch, Normal, Ran, Special, SpecialWord, Spent}
+use Rattle.runs.specs.Names.{Start, Unsaid}
+use Rattle.runs.specs.Run.{play, ran}
 
 -- the end; ticks used, retired, stalls, flushes, and register r
 unfoldable pub seen : ℕ → Ran → End × List ℕ
@@ -19,9 +22,21 @@ seen r p = (
       ∷ p .state .counts .«flush_events» ∷ getD (p .state .reg) r 0 ∷ [],
 )
 
--- a sheet's run with a tick limit and load answers, from address 0, Normal, supervisor, registers and feature word 0
+-- a sheet's run with a tick limit, load answers and no special register, from address 0, Normal, supervisor, registers
+-- and feature word 0
 unfoldable pub row : List ℕ → ℕ → List ℕ → ℕ → End × List ℕ
-row sheet limit answers r = seen r (ran (fresh zeroStart) sheet answers limit)
+row sheet limit answers r = seen r (ran (fresh zeroStart) sheet answers [] limit)
+
+-- a sheet's run with a table, from a start's values; and what each of its ticks said of a special register
+unfoldable pub tableRow : Start → List ℕ → List ℕ → List ℕ → ℕ → (End × List ℕ) × List Special
+tableRow v sheet table answers r = (
+  seen r (ran (fresh v) sheet answers table 1000000),
+  map (λ t. t .special) ((play (sheetSource sheet table) 1000000 answers (fresh v)) .ticks),
+)
+
+-- the start with zeros, but in user mode
+unfoldable pub userStart : Start
+userStart = record { reg = replicate 32 0; pc = 0; mode = Normal; user = true; features = 0 }
 
 unfoldable pub haltSheet : List ℕ
 haltSheet = 0x02 ∷ 0x00 ∷ 0x00 ∷ 0x00 ∷ 0x00 ∷ []
@@ -88,6 +103,60 @@ pub record Rows : Type 0 where
       haltSheet) 1000000 [] 2 ≡ (Halted, 12 ∷ 4 ∷ 0 ∷ 2 ∷ 7 ∷ [])
   -- the empty sheet offers Unknown 0 everywhere
   pub empty : row [] 1000000 [] 0 ≡ (EndRefused 12, 4 ∷ 0 ∷ 0 ∷ 0 ∷ 0 ∷ [])
+  -- asked in tick 3; the word forwards, with no stall
+  pub mfsr : tableRow zeroStart mfsrSheet mfsrTable [] 3 ≡ (
+    (Halted, 7 ∷ 3 ∷ 0 ∷ 0 ∷ 14 ∷ []),
+    Unsaid ∷ Unsaid ∷ SpecialWord 7 ∷ Unsaid ∷ Unsaid ∷ Unsaid ∷ Unsaid ∷ [],
+  )
+  -- a table of 3 words
+  pub mfsrOutside : tableRow zeroStart mfsrSheet (0 ∷ 0 ∷ 0 ∷ []) [] 3 ≡ (
+    (EndRefused 12, 4 ∷ 0 ∷ 0 ∷ 0 ∷ 0 ∷ []),
+    Unsaid ∷ Unsaid ∷ NoSuch ∷ Unsaid ∷ [],
+  )
+  -- in user mode nothing is asked
+  pub mfsrUser : tableRow userStart mfsrSheet mfsrTable [] 3 ≡ (
+    (EndRefused 12, 4 ∷ 0 ∷ 0 ∷ 0 ∷ 0 ∷ []),
+    Unsaid ∷ Unsaid ∷ Unsaid ∷ Unsaid ∷ [],
+  )
+  -- directly behind a HALT it asks in tick 4, and its word is not used
+  pub mfsrBehindHalt : tableRow zeroStart (
+      0x02 ∷ 0x00 ∷ 0x00 ∷ 0x00 ∷ 0x00 ∷  -- HALT
+      0x33 ∷ 0x01 ∷ 0x00 ∷ 0x00 ∷ 0x03 ∷  -- MFSR R1,3
+      []) mfsrTable [] 1 ≡ (
+        (Halted, 5 ∷ 1 ∷ 0 ∷ 0 ∷ 0 ∷ []),
+        Unsaid ∷ Unsaid ∷ Unsaid ∷ SpecialWord 7 ∷ Unsaid ∷ [],
+      )
+  -- with a NOP between, the HALT empties its latch first
+  pub mfsrTwoBehindHalt : tableRow zeroStart (
+      0x02 ∷ 0x00 ∷ 0x00 ∷ 0x00 ∷ 0x00 ∷  -- HALT
+      0x00 ∷ 0x00 ∷ 0x00 ∷ 0x00 ∷ 0x00 ∷  -- NOP
+      0x33 ∷ 0x01 ∷ 0x00 ∷ 0x00 ∷ 0x03 ∷  -- MFSR R1,3
+      []) mfsrTable [] 1 ≡ (
+        (Halted, 5 ∷ 1 ∷ 0 ∷ 0 ∷ 0 ∷ []),
+        Unsaid ∷ Unsaid ∷ Unsaid ∷ Unsaid ∷ Unsaid ∷ [],
+      )
+  pub mfsrBehindUnknown : tableRow zeroStart (
+      0x60 ∷ 0x00 ∷ 0x00 ∷ 0x00 ∷ 0x00 ∷  -- Unknown 0
+      0x33 ∷ 0x01 ∷ 0x00 ∷ 0x00 ∷ 0x03 ∷  -- MFSR R1,3
+      []) mfsrTable [] 1 ≡ (
+        (EndRefused 12, 4 ∷ 0 ∷ 0 ∷ 0 ∷ 0 ∷ []),
+        Unsaid ∷ Unsaid ∷ Unsaid ∷ SpecialWord 7 ∷ [],
+      )
+  -- it has no source, so it waits for no load
+  pub mfsrBehindLoad : tableRow zeroStart (
+      0x21 ∷ 0x01 ∷ 0x00 ∷ 0x00 ∷ 0x08 ∷  -- LD R1,R0+8
+      0x33 ∷ 0x01 ∷ 0x00 ∷ 0x00 ∷ 0x03 ∷  -- MFSR R1,3
+      haltSheet) mfsrTable (21 ∷ []) 1 ≡ (
+        (Halted, 7 ∷ 3 ∷ 0 ∷ 0 ∷ 7 ∷ []),
+        Unsaid ∷ Unsaid ∷ Unsaid ∷ SpecialWord 7 ∷ Unsaid ∷ Unsaid ∷ Unsaid ∷ [],
+      )
+  -- into R0 it asks, and writes nothing
+  pub mfsrIntoZero : tableRow zeroStart (
+      0x33 ∷ 0x00 ∷ 0x00 ∷ 0x00 ∷ 0x03 ∷  -- MFSR R0,3
+      haltSheet) mfsrTable [] 0 ≡ (
+        (Halted, 6 ∷ 2 ∷ 0 ∷ 0 ∷ 0 ∷ []),
+        Unsaid ∷ Unsaid ∷ SpecialWord 7 ∷ Unsaid ∷ Unsaid ∷ Unsaid ∷ [],
+      )
   -- of the widths 0 to 5 and 8, those that no access has
   pub widths : map badWidth (0 ∷ 1 ∷ 2 ∷ 3 ∷ 4 ∷ 5 ∷ 8 ∷ []) ≡ (
       false ∷ false ∷ false ∷ true ∷ false ∷ true ∷ true ∷ [])

@@ -54,7 +54,7 @@ play src (suc n) l s =
 unfoldable pub reported : Played → Ran
 reported p = record { end = p .end; ticks = length (p .ticks); state = p .state }
 
--- the refusals before the first turn: 6, per record 5, 1, 2; 7: a limit above 1,000,000; 11
+-- the refusals before the first turn: 6, per record 5, 1; 7: a limit above 1,000,000; 11
 unfoldable pub runCode : PipelineCpu → List ℕ → ℕ → ℕ
 runCode s sheet limit =
     cond (ltb 0 (limitedCode sheet limit)) (limitedCode sheet limit) (cond (outOfBounds (s .stages)) 11 0)
@@ -63,8 +63,8 @@ runCode s sheet limit =
 unfoldable pub refusedRun : ℕ → PipelineCpu → Ran
 refusedRun n s = record { end = EndRefused n; ticks = 0; state = s }
 
--- the runner: a state, a sheet's bytes, load answers and a tick limit
-unfoldable pub ran : PipelineCpu → List ℕ → List ℕ → ℕ → Ran
-ran s sheet answers limit =
+-- the runner: a state, a sheet's bytes, load answers, a table of special registers and a tick limit
+unfoldable pub ran : PipelineCpu → List ℕ → List ℕ → List ℕ → ℕ → Ran
+ran s sheet answers table limit =
     cond (ltb 0 (runCode s sheet limit)) (refusedRun (runCode s sheet limit) s)
-    (reported (play (sheetSource sheet) limit answers s))
+    (reported (play (sheetSource sheet table) limit answers s))

@@ -9,16 +9,20 @@ use mathlib.Core.Logic.{_⊎_, inl, inr}
 use mathlib.Core.Path.{_≡_, refl}
 use native.Mathlib.Omega.{arith}
 use Rattle.isa.proofs.Bools.{split}
+use Rattle.isa.specs.Inquiries.{isSaid}
+use Rattle.isa.specs.Machine.{Source}
 use Rattle.isa.specs.Operands.{bare, okDest, okOperands, operandsN, plain}
 use Rattle.isa.specs.Refusals.{instructionCode, isOf, rawCode}
-use Rattle.sheet.specs.Names.{Line, Mode, NoRecord, Normal, Pair, RawInstr, Record, Short}
+use Rattle.sheet.specs.Names.{Line, Mode, NoRecord, Normal, Pair, Record, Short}
 use Rattle.sheet.specs.Sheet.{badLength, codeAt, firstCode, firstRefused, lineOffer, offerAt, offerIn}
-use Rattle.sheet.specs.Sheet.{pairOffer, recordAt, recordCode, sheetCode, unknownOf}
+use Rattle.sheet.specs.Sheet.{pairOffer, recordAt, recordCode, sheetCode, sheetSource, tableOf, unknownOf}
 
--- what is fair to offer at each address p and mode m: an instruction of the mode, which 1 and 2 do not refuse
-pub record Fair (raw : ℕ → Mode → RawInstr) : Type 0 where
-  pub kind : (p : ℕ) (m : Mode) → isOf m (raw p m) ≡ true
-  pub code : (p : ℕ) (m : Mode) → rawCode (raw p m) ≡ 0
+-- what is fair to offer at each address p and mode m: an instruction of the mode, which 1 does not refuse; and of each
+-- special register something is said
+pub record Fair (src : Source) : Type 0 where
+  pub kind : (p : ℕ) (m : Mode) → isOf m (src .raw p m) ≡ true
+  pub code : (p : ℕ) (m : Mode) → rawCode (src .raw p m) ≡ 0
+  pub said : (n : ℕ) → isSaid (src .table n) ≡ true
 
 -- the first refused record of so many has a code, and none before it has one
 pub first-le : (l : List ℕ) (k n : ℕ) → firstRefused l k n ≤ k + n
@@ -88,9 +92,15 @@ fair-in (Line i) j Short c = refl
 fair-in (Pair h g) j Normal c = refl
 fair-in (Pair h g) j Short c = split (eqb j 0) (λ e. rw e) (λ e. split (eqb j 2) (λ f. rw (e, f)) (λ f. rw (e, f)))
 
-pub sheet-fair : (l : List ℕ) → sheetCode l ≡ 0 → Fair (offerAt l)
+-- a table says something of every number
+said-in : (t : List ℕ) (n : ℕ) → isSaid (tableOf t n) ≡ true
+unfolding tableOf isSaid
+said-in t n = split (ltb n (length t)) (λ e. rw e) (λ e. rw e)
+
+pub sheet-fair : (l t : List ℕ) → sheetCode l ≡ 0 → Fair (sheetSource l t)
 unfolding offerAt
-sheet-fair l e = record {
+sheet-fair l t e = record {
   kind = λ p m. kind-in (recordAt l (p / 4)) (p % 4) m;
   code = λ p m. fair-in (recordAt l (p / 4)) (p % 4) m (fair-record l e (p / 4));
+  said = said-in t;
 }

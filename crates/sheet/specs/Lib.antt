@@ -1,4 +1,5 @@
 pub mod Names
 pub mod Records
 pub mod Sheet
+pub mod Samples
 pub mod Turns

@@ -9,6 +9,8 @@ pub use Rattle.isa.specs.declared.Instruction.the-variants.{Ldh, Stb, Sth, Ldil
 pub use Rattle.isa.specs.declared.Instruction.the-variants.{Mtsr}
 pub use Rattle.isa.specs.declared.RawInstr.{RawInstr}
 pub use Rattle.isa.specs.declared.RawInstr.the-variants.{Normal as RawNormal, Short as RawShort}
+pub use Rattle.isa.specs.declared.Special.{Special}
+pub use Rattle.isa.specs.declared.Special.the-variants.{NoSuch, Word as SpecialWord}
 pub use Rattle.sheet.specs.declared.Record.{Record}
 pub use Rattle.sheet.specs.declared.Record.the-variants.{None as NoRecord, Line, Pair}
 pub use Rattle.sheet.specs.declared.End.{End}

@@ -4,10 +4,12 @@ use lib.Dec.{eqb, ltb}
 use lib.ListN.{getD, length}
 use mathlib.Core.Bool.{Bool, _||_, cond, not}
 use mathlib.Core.List.{List}
+use Rattle.isa.specs.Inquiries.{NotMfsr}
 use Rattle.isa.specs.Machine.{Source}
 use Rattle.isa.specs.Refusals.{instructionCode}
-use Rattle.sheet.specs.Names.{Instruction, Line, Mode, NoRecord, Normal, Pair, RawInstr, RawNormal, RawShort}
-use Rattle.sheet.specs.Names.{Record, Short, Unknown}
+use Rattle.isa.specs.Short.{decodedOf}
+use Rattle.sheet.specs.Names.{Instruction, Line, Mode, NoRecord, NoSuch, Normal, Pair, RawInstr, RawNormal}
+use Rattle.sheet.specs.Names.{RawShort, Record, Short, Special, SpecialWord, Unknown}
 use Rattle.sheet.specs.Records.{recordOf}
 
 -- record k of a sheet's bytes; none outside it
@@ -43,9 +45,17 @@ offerIn (Pair h g) k m = pairOffer h g k m
 unfoldable pub offerAt : List ℕ → ℕ → Mode → RawInstr
 offerAt l p m = offerIn (recordAt l (p / 4)) (p % 4) m
 
--- what a run over it is offered
-abbrev pub sheetSource : List ℕ → Source
-sheetSource l = record { raw = offerAt l }
+-- what a lent table of words says of special register n: the word at place n; past its end there is no such register
+unfoldable pub tableOf : List ℕ → ℕ → Special
+tableOf t n = cond (ltb n (length t)) (SpecialWord (getD t n 0)) NoSuch
+
+-- what a run over a sheet's bytes and a table is offered
+abbrev pub sheetSource : List ℕ → List ℕ → Source
+sheetSource l t = record { raw = offerAt l; table = tableOf t }
+
+-- a sheet without MFSR
+abbrev pub SheetWithout : List ℕ → Type 0
+SheetWithout l = (p : ℕ) (m : Mode) → NotMfsr (decodedOf (offerAt l p m))
 
 -- per record 5: no such command, or an unused byte not zero; else the code of its instruction
 unfoldable pub recordCode : Record → ℕ

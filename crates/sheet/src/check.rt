@@ -57,7 +57,7 @@ pub fn bad_length(n: usize) -> bool
     (n % 5 != 0) | (20480 < n)
 }
 
-// 6, then per record 5, 1, 2; 0 for a sheet that is none of these.
+// 6, then per record 5, 1; 0 for a sheet that is none of these.
 pub fn check(sheet: &[u8]) -> u32
     ensures { λ r. ⌜ r ≡ sheetCode (now (sheet .entry)) ⌝ }
 {

@@ -9,10 +9,12 @@
 // - turn_by: spent before halted; loads before refused 12.
 // - answer_at: the answer before; the last one where none is left.
 // - used_after: one more where nothing is loaded; one more where none is left.
+// - special_at: the neighbour's word (neighbour_register); the last word for a number past the table's end.
 pub mod answers;
 pub mod check;
 pub mod offer;
 mod records;
+pub mod specials;
 pub mod turns;
 
 use isa::Instruction;

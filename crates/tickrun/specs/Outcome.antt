@@ -8,4 +8,4 @@ use Rattle.runs.specs.Run.{ran}
 use Rattle.runs.specs.declared.Ran.{Ran}
 
 unfoldable pub outcome : List ℕ → Ran
-outcome sheet = ran (fresh zeroStart) sheet [] 1000000
+outcome sheet = ran (fresh zeroStart) sheet [] [] 1000000

@@ -5,13 +5,14 @@ use isa::Start;
 use pipeline::PipelineCpu;
 use runs::Ran;
 
-// Runs a sheet.
+// Runs a sheet, with no load answer and no special register.
 fn outcome(sheet: &[u8]) -> Ran
     ensures { λ r. ⌜ r ≡ outcome (now (sheet .entry)) ⌝ }
 {
     let start = PipelineCpu::start(Start::zero());
-    let answers = [0u32; 1];
-    runner::run(start, sheet, &answers[..0], 1000000)
+    let zero = [0u32; 1];
+    let none = &zero[..0];
+    runner::run(start, sheet, none, none, 1000000)
 }
 
 // Writes the first bytes of a buffer to an open file.

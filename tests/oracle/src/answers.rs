@@ -7,10 +7,11 @@ use crate::cpu_pipeline::harness::original::Original;
 use crate::cpu_pipeline::harness::{operands, short_numbers_of};
 use crate::panel;
 use crate::player;
-use crate::refusals::{self, NONE, OUT_OF_BOUNDS};
+use crate::refusals::{self, NONE, OUT_OF_BOUNDS, UNWANTED_SPECIAL};
 use crate::row::Row;
-use crate::rows::{Answer, Begin, Decoded, Given, IdEx, IfId, Offer, Seen, State};
+use crate::rows::{Begin, Decoded, Given, IdEx, IfId, Input, Seen, Special, State};
 use crate::runner;
+use crate::special_registers;
 
 /// Answers cases one after the other, and holds the state of the list under way and the buffers of runs.
 pub struct Answers {
@@ -47,10 +48,10 @@ impl Answers {
             Case::Halfword(halfword) => short_numbers_of(*halfword as u16).put(out),
             Case::Operands(instruction) => operands::of_normal(*instruction).put(out),
             Case::ShortOperands(halfword) => operands::of_short(*halfword as u16).put(out),
-            Case::Tick(state, offer, answer) => self.tick(state, offer, answer, out),
+            Case::Tick(state, given) => self.tick(state, given, out),
             Case::Ask(state) => self.ask(state, out),
             Case::Forwarded(state, register) => self.forwarded(state, *register, out),
-            Case::Execute(state, latch) => self.execute(state, latch, out),
+            Case::Execute(state, latch, special) => self.execute(state, latch, *special, out),
             Case::Decode(state, latch) => self.decode(state, latch, out),
             Case::Sources(latch) => self.sources(latch, out),
             Case::MulDiv(decoded) => self.latency(decoded, out),
@@ -58,10 +59,11 @@ impl Answers {
             Case::Retire(state) => self.retire(state, out),
             Case::Start(begin) => self.original.start(begin).put(out),
             Case::ListStart(begin) => self.held = self.original.start(begin),
-            Case::ListTick(offer, answer) => self.list_tick(offer, answer, out),
+            Case::ListTick(given) => self.list_tick(given, out),
             Case::ListShow => self.held.put(out),
             Case::PutSheet(at, block) => self.buffers.put_sheet(*at, block),
             Case::PutAnswers(at, block) => self.buffers.put_answers(*at, block),
+            Case::PutTable(at, block) => self.buffers.put_table(*at, block),
             Case::Run(state, given) => self.run(state, given, out),
             Case::Player(begin, given) => self.player(begin, given, out),
             Case::Panel(state, given) => self.panel(state, given, out),
@@ -75,29 +77,29 @@ impl Answers {
     }
 
     /// Does one tick: the code, the state handed back and what asking names before it.
-    pub fn ticked(&mut self, state: &State, offer: &Offer, answer: &Answer) -> (u32, State, Seen) {
+    pub fn ticked(&mut self, state: &State, given: &Input) -> (u32, State, Seen) {
         match refusals::standing(state) {
             NONE => {}
             code => return (code, *state, Seen::default()),
         }
-        let (next, seen) = self.original.tick(state, offer, answer);
-        match refusals::offered(offer, answer, &seen) {
+        let (next, seen) = self.original.tick(state, given);
+        match refusals::offered(given, &seen) {
             NONE => (NONE, next, seen),
             code => (code, *state, seen),
         }
     }
 
     /// Answers a tick.
-    fn tick(&mut self, state: &State, offer: &Offer, answer: &Answer, out: &mut Vec<u32>) {
-        let (code, next, _) = self.ticked(state, offer, answer);
+    fn tick(&mut self, state: &State, given: &Input, out: &mut Vec<u32>) {
+        let (code, next, _) = self.ticked(state, given);
         code.put(out);
         next.put(out);
     }
 
     /// Does one tick on the state held and answers what asking named before it.
-    fn list_tick(&mut self, offer: &Offer, answer: &Answer, out: &mut Vec<u32>) {
+    fn list_tick(&mut self, given: &Input, out: &mut Vec<u32>) {
         let state = self.held;
-        let (code, next, seen) = self.ticked(&state, offer, answer);
+        let (code, next, seen) = self.ticked(&state, given);
         self.held = next;
         code.put(out);
         seen.put(out);
@@ -120,10 +122,17 @@ impl Answers {
         panel::preview(&mut self.original, state, &task).put(out);
     }
 
-    /// Panics if a case is a play that differs from the original's run of the same sheet.
+    /// Panics if a case is a play that differs from the original's run of the same sheet, or a tick whose question for
+    /// a special register is not the original's.
     pub fn check(&mut self, case: &Case) {
-        if let Case::Player(begin, given) = case {
-            player::check(&mut self.original, begin, &self.buffers.task(given));
+        let original = &mut self.original;
+        match case {
+            Case::Player(begin, given) => {
+                player::check(original, begin, &self.buffers.task(given));
+            }
+            Case::Tick(state, _) | Case::Ask(state) => special_registers::check(original, state),
+            Case::ListTick(_) => special_registers::check(original, &self.held),
+            _ => {}
         }
     }
 
@@ -138,7 +147,7 @@ impl Answers {
         }
     }
 
-    /// Answers with a refusal alone, or with 0 and what follows.
+    /// Answers with refusal 11 alone, or with 0 and what follows.
     fn part(
         &mut self,
         broken: bool,
@@ -161,11 +170,15 @@ impl Answers {
         });
     }
 
-    /// Answers execute by itself.
-    fn execute(&mut self, state: &State, latch: &IdEx, out: &mut Vec<u32>) {
+    /// Answers execute by itself, with the word that it asks for or none.
+    fn execute(&mut self, state: &State, latch: &IdEx, special: Special, out: &mut Vec<u32>) {
         let broken = refusals::state_breaks(state) || refusals::id_ex_breaks(latch);
+        let asks = special_registers::wanted_by(state.user, latch).is_some();
+        if !broken && special.is_given() != asks {
+            return UNWANTED_SPECIAL.put(out);
+        }
         self.part(broken, out, |original, out| {
-            let (ex_mem, redirect) = original.execute(state, latch);
+            let (ex_mem, redirect) = original.execute(state, latch, special);
             ex_mem.put(out);
             redirect.put(out);
         });

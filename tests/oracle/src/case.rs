@@ -9,7 +9,7 @@ pub use names::result_names;
 
 use crate::buffers::Block;
 use crate::cpu_pipeline::harness::Numbers;
-use crate::rows::{Answer, Begin, Decoded, Given, IdEx, IfId, Offer, State};
+use crate::rows::{Begin, Decoded, Given, IdEx, IfId, Input, Special, State};
 
 /// One question.
 #[derive(Debug, Clone, Copy, PartialEq, Eq)]
@@ -20,10 +20,10 @@ pub enum Case {
     Halfword(u32),
     Operands(Numbers),
     ShortOperands(u32),
-    Tick(State, Offer, Answer),
+    Tick(State, Input),
     Ask(State),
     Forwarded(State, u32),
-    Execute(State, IdEx),
+    Execute(State, IdEx, Special),
     Decode(State, IfId),
     Sources(IfId),
     MulDiv(Decoded),
@@ -31,10 +31,11 @@ pub enum Case {
     Retire(State),
     Start(Begin),
     ListStart(Begin),
-    ListTick(Offer, Answer),
+    ListTick(Input),
     ListShow,
     PutSheet(u32, Block),
     PutAnswers(u32, Block),
+    PutTable(u32, Block),
     Run(State, Given),
     Player(Begin, Given),
     Panel(State, Given),
@@ -67,7 +68,7 @@ impl Case {
     pub fn has_a_result(&self) -> bool {
         !matches!(
             self,
-            Case::ListStart(_) | Case::PutSheet(..) | Case::PutAnswers(..)
+            Case::ListStart(_) | Case::PutSheet(..) | Case::PutAnswers(..) | Case::PutTable(..)
         )
     }
 }

@@ -20,6 +20,7 @@ mod rows;
 mod runner;
 pub mod sample;
 mod sheet;
+mod special_registers;
 pub mod stand_ins;
 pub mod tickrun;
 

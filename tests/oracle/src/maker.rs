@@ -20,7 +20,10 @@ mod program;
 mod records;
 mod run;
 mod sending;
+mod special;
+mod special_records;
 mod state;
+mod table;
 
 use crate::answers::Answers;
 use crate::buffers::Buffers;

@@ -1,4 +1,5 @@
-//! The plain player: one instruction after the other over a sheet, by a reading of RULES 2 to 4, 14 and 23 of its own.
+//! The plain player: one instruction after the other over a sheet, by a reading of RULES 2 to 4, 14, 23
+//! and 25 of its own.
 
 mod agreement;
 mod arithmetic;

@@ -2,14 +2,13 @@
 
 use crate::cpu_pipeline::harness::Numbers;
 use crate::rows::{
-    Answer, Decoded, ExMem, IdEx, IfId, LOAD, MemWb, NORMAL, Offer, Raw, SHORT, Seen, State,
+    Decoded, ExMem, IdEx, IfId, Input, LOAD, MemWb, NORMAL, Offer, Raw, SHORT, Seen, State,
 };
 
 /// Accepted.
 pub const NONE: u32 = 0;
 /// The numbers of the refusals, RULES 19.1.
 pub const NORMAL_REGISTER: u32 = 1;
-pub const OFFERED_MFSR: u32 = 2;
 pub const UNWANTED_OFFER: u32 = 3;
 pub const UNWANTED_ANSWER: u32 = 4;
 pub const BAD_RECORD: u32 = 5;
@@ -17,12 +16,10 @@ pub const BAD_LENGTH: u32 = 6;
 pub const LIMIT_TOO_HIGH: u32 = 7;
 pub const PANEL_SHEET_TOO_LONG: u32 = 8;
 pub const PANEL_LIMIT_TOO_HIGH: u32 = 9;
+pub const UNWANTED_SPECIAL: u32 = 10;
 pub const OUT_OF_BOUNDS: u32 = 11;
 pub const NOT_RETIRABLE: u32 = 12;
 pub const COUNTER_FULL: u32 = 13;
-
-/// Position of MFSR in the enum of Normal instructions.
-pub const MFSR: u32 = 0x29;
 
 /// Tells the refusal by where the machine stands, or none.
 pub fn standing(state: &State) -> u32 {
@@ -37,8 +34,13 @@ pub fn standing(state: &State) -> u32 {
     }
 }
 
-/// Tells the refusal by what is offered to a tick that asks for this, or none.
-pub fn offered(offer: &Offer, answer: &Answer, seen: &Seen) -> u32 {
+/// Tells the refusal by what is given to a tick that asks for this, or none.
+pub fn offered(given: &Input, seen: &Seen) -> u32 {
+    let Input {
+        offer,
+        answer,
+        special,
+    } = given;
     let of_the_instruction = match offer {
         Offer::Normal(offered) => instruction(offered),
         Offer::Nothing | Offer::Short(_) => NONE,
@@ -46,6 +48,7 @@ pub fn offered(offer: &Offer, answer: &Answer, seen: &Seen) -> u32 {
     match of_the_instruction {
         NONE if !is_wanted(offer, seen) => UNWANTED_OFFER,
         NONE if answer.given != (seen.request == LOAD) => UNWANTED_ANSWER,
+        NONE if special.is_given() != seen.special => UNWANTED_SPECIAL,
         code => code,
     }
 }
@@ -54,8 +57,6 @@ pub fn offered(offer: &Offer, answer: &Answer, seen: &Seen) -> u32 {
 pub fn instruction(instruction: &Numbers) -> u32 {
     if names_a_register_above_31(instruction) {
         NORMAL_REGISTER
-    } else if instruction.variant == MFSR {
-        OFFERED_MFSR
     } else {
         NONE
     }
@@ -82,7 +83,7 @@ pub fn state_breaks(state: &State) -> bool {
 /// Tells whether a fetched instruction is out of bounds, in a valid latch or not.
 pub fn if_id_breaks(latch: &IfId) -> bool {
     match &latch.raw {
-        Raw::Normal(instruction) => instruction_breaks(instruction),
+        Raw::Normal(instruction) => names_a_register_above_31(instruction),
         Raw::Short(_) => false,
     }
 }
@@ -106,7 +107,7 @@ pub fn ex_mem_breaks(latch: &ExMem) -> bool {
 /// Tells whether a decoded instruction is out of bounds; the numbers of a short one are not tested.
 pub fn decoded_breaks(decoded: &Decoded) -> bool {
     match decoded {
-        Decoded::Normal(instruction) => instruction_breaks(instruction),
+        Decoded::Normal(instruction) => names_a_register_above_31(instruction),
         Decoded::Short(_) => false,
     }
 }
@@ -119,11 +120,6 @@ pub fn register_breaks(register: u32) -> bool {
 /// Tells whether a coded destination, none or register plus one, is out of bounds.
 fn destination_breaks(dest: u32) -> bool {
     dest > 0 && register_breaks(dest - 1)
-}
-
-/// Tells whether a Normal instruction may stand in no latch.
-fn instruction_breaks(instruction: &Numbers) -> bool {
-    instruction.variant == MFSR || names_a_register_above_31(instruction)
 }
 
 /// Tells whether a Normal instruction names a register above 31.

@@ -2,11 +2,13 @@
 
 mod instruction;
 mod latch;
+mod special;
 mod state;
 
 pub use instruction::{Decoded, Offer, Raw};
 pub use latch::{ExMem, IdEx, IfId, MemWb};
-pub use state::{Answer, Begin, Given, Redirect, Seen, State};
+pub use special::Special;
+pub use state::{Answer, Begin, Given, Input, Redirect, Seen, State};
 
 /// Numbers of the two modes.
 pub const NORMAL: u32 = 0;

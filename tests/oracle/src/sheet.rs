@@ -6,7 +6,7 @@ mod record;
 
 pub use command::{COMMANDS, PAIR, Shape, of as command};
 pub use offer::offer;
-pub use record::{Record, refuse, write};
+pub use record::{Record, refuse, special_register, write};
 
 /// Bytes of a record, and of the addresses that it stands for.
 pub const RECORD_BYTES: usize = 5;

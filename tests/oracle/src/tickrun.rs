@@ -14,7 +14,7 @@ pub const BEGIN: Begin = Begin {
     features: 0,
 };
 
-/// Reads a sheet, runs it without load answers and prints what came of it.
+/// Reads a sheet, runs it without load answers and with an empty table, and prints what came of it.
 pub fn run(mut input: impl Read, mut output: impl Write) -> Result<()> {
     let mut sheet = Vec::new();
     input.read_to_end(&mut sheet)?;
@@ -23,6 +23,7 @@ pub fn run(mut input: impl Read, mut output: impl Write) -> Result<()> {
     let task = Task {
         sheet: &sheet,
         answers: &[],
+        table: &[],
         limit: HIGHEST_LIMIT,
     };
     let run = runner::run(&mut original, &state, &task);

@@ -3,10 +3,14 @@
 use crate::asked::{self, Asked};
 use crate::buffers::{BLOCK_BYTES, BLOCK_WORDS, Buffers};
 use crate::case::{Case, Kind};
+use crate::cpu_pipeline::harness::Numbers;
 use crate::line;
 use crate::maker::Maker;
-use crate::rows::Given;
+use crate::rows::{Decoded, Given, Raw};
+use crate::sheet;
+use crate::special_registers::MFSR;
 use crate::turn_answers::TurnAnswers;
+use std::collections::BTreeSet;
 
 /// Bytes that a group weighs besides its text, so that few groups are chosen.
 const WEIGHT: usize = 500;
@@ -103,7 +107,7 @@ impl Source {
             && let Some(given) = last.given()
         {
             cases.iter().for_each(|case| self.hold(case));
-            cases = self.puts(given);
+            cases = self.puts(&last, given);
             cases.push(last);
         }
         cases
@@ -114,16 +118,54 @@ impl Source {
         match case {
             Case::PutSheet(at, block) => self.held.put_sheet(*at, block),
             Case::PutAnswers(at, block) => self.held.put_answers(*at, block),
+            Case::PutTable(at, block) => self.held.put_table(*at, block),
             _ => {}
         }
     }
 
-    /// Gives the lines that put all that a run, play or preview is given.
-    fn puts(&self, given: &Given) -> Vec<Case> {
+    /// Gives the lines that put all that a run, play or preview is given; of the table, what its MFSRs may read.
+    fn puts(&self, case: &Case, given: &Given) -> Vec<Case> {
         let sheet = (0..given.sheet_length as usize).step_by(BLOCK_BYTES);
         let answers = (0..given.answer_count as usize).step_by(BLOCK_WORDS);
         let sheet = sheet.map(|at| Case::PutSheet(at as u32, self.held.sheet_block(at)));
         let answers = answers.map(|at| Case::PutAnswers(at as u32, self.held.answer_block(at)));
-        sheet.chain(answers).collect()
+        let table = self.table_places(case, given).into_iter();
+        let table = table.map(|at| Case::PutTable(at as u32, self.held.table_block(at)));
+        sheet.chain(answers).chain(table).collect()
     }
+
+    /// Gives the places of the lines that hold a special register of the sheet or of a latch, or one that it may be
+    /// taken for.
+    fn table_places(&self, case: &Case, given: &Given) -> BTreeSet<usize> {
+        let (records, _) = self.held.sheet[..given.sheet_length as usize].as_chunks();
+        let named = records.iter().filter_map(sheet::special_register);
+        let named = named.chain(named_in_latches(case));
+        let near =
+            named.flat_map(|number| [number.saturating_sub(1), number, number + 1, number & 0xff]);
+        let held = near.filter(|&number| number < given.table_length);
+        held.map(|number| number as usize / BLOCK_WORDS * BLOCK_WORDS)
+            .collect()
+    }
+}
+
+/// Gives the special registers that an MFSR in IF/ID or ID/EX of a run's or preview's state reads.
+fn named_in_latches(case: &Case) -> impl Iterator<Item = u32> {
+    let latches = match case {
+        Case::Run(state, _) | Case::Panel(state, _) => Some((state.if_id.raw, state.id_ex.decoded)),
+        _ => None,
+    };
+    let held = latches.into_iter().flat_map(|(fetched, decoded)| {
+        let fetched = match fetched {
+            Raw::Normal(instruction) => Some(instruction),
+            Raw::Short(_) => None,
+        };
+        let decoded = match decoded {
+            Decoded::Normal(instruction) => Some(instruction),
+            Decoded::Short(_) => None,
+        };
+        [fetched, decoded]
+    });
+    let is_a_read = |instruction: &Numbers| instruction.variant == MFSR;
+    let reads = held.flatten().filter(is_a_read);
+    reads.map(|instruction| instruction.fields[1])
 }

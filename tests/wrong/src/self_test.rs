@@ -85,7 +85,7 @@ fn use_the_original_feature_word(case: &mut Case) {
         Case::Tick(state, ..)
         | Case::Ask(state)
         | Case::Forwarded(state, _)
-        | Case::Execute(state, _)
+        | Case::Execute(state, ..)
         | Case::Decode(state, _)
         | Case::Retire(state)
         | Case::Run(state, _)

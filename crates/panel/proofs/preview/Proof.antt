@@ -11,9 +11,9 @@ pub preview-spec : {M : Type 1} → statement M
 unfolding refusedRun
 preview-spec = tie.close (tie.spec
     (λ c κs. search needs)
-    (λ c. sym (refused-is _ _ _ _ _
+    (λ c. sym (refused-is _ _ _ _ _ _
     (sym (over-is _ _ (omega (arith, c .if1 .taken, c .before .over-code .ensures))) ∙ sym (c .before .over-code .ensures))
     (c .if1 .taken)))
     (λ c κs. search needs)
-    (λ c. c .run .ensures ∙ sym (not-over _ _ _ _
+    (λ c. c .run .ensures ∙ sym (not-over _ _ _ _ _
     (sym (c .before .before .over-code .ensures) ∙ omega (arith, c .before .if1 .left)))))

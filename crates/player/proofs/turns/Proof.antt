@@ -12,35 +12,35 @@ use Rattle.player.proofs.turns.Statement.{statement}
 use Rattle.player.proofs.turns.Tie as tie
 
 abbrev Inv-loop : tie.InvT-loop
-Inv-loop v sheet answers limit reg₀ pc₀ mode₀ table₀ used₀ done₀ reg pc mode table used done =
-    Holds sheet answers limit v reg pc mode table used done
+Inv-loop v sheet answers table limit reg₀ pc₀ mode₀ slots₀ used₀ done₀ reg pc mode slots used done =
+    Holds sheet answers table limit v reg pc mode slots used done
 
 abbrev μ-loop : tie.MeasureT-loop
-μ-loop v sheet answers limit reg₀ pc₀ mode₀ table₀ used₀ done₀ reg pc mode table used done =
-    toGo limit done (isAt (getD table (placeOf pc) (slotAt sheet pc mode)) pc mode)
+μ-loop v sheet answers table limit reg₀ pc₀ mode₀ slots₀ used₀ done₀ reg pc mode slots used done =
+    toGo limit done (isAt (getD slots (placeOf pc) (slotAt sheet pc mode)) pc mode)
 
 loop-holds : tie.Need-loop-holds Inv-loop μ-loop
 unfolding archWith
-loop-holds c = begins _ _ _ _ _ refl (kept-same _ _ (slot-own _ _ _ _ (c .at .ensures)) 512) _ refl
+loop-holds c = begins _ _ _ _ _ _ refl (kept-same _ _ (slot-own _ _ _ _ (c .at .ensures)) 512) _ refl
 
--- the place in the table is there
+-- the place among the slots is there
 mul-s : tie.Need-mul-s Inv-loop μ-loop
 mul-s c = let z : c .place-of .result < 512 = rw (c .place-of .ensures) (place-in _) in omega (arith, z)
 
 copy-s : tie.Need-array-copy-out-s Inv-loop μ-loop
 copy-s c = rw (c .place-of .ensures) (place-in _)
 
-mul-table : tie.Need-mul-table Inv-loop μ-loop
-mul-table c = mul-s (c .before .before .before .before)
+mul-slots : tie.Need-mul-slots Inv-loop μ-loop
+mul-slots c = mul-s (c .before .before .before .before)
 
-set-table : tie.Need-array-set-from-table Inv-loop μ-loop
-set-table c = copy-s (c .before .before .before .before)
+set-slots : tie.Need-array-set-from-slots Inv-loop μ-loop
+set-slots c = copy-s (c .before .before .before .before)
 
 -- a slot put in its place
 loop-less : tie.Need-loop-less Inv-loop μ-loop
 loop-less c = let k = c .before .before .before .before in
     let i = k .before .before .loop in
-    put-less _ (i .table) _ _ (k .place-of .result) _ _ (i .pc) (i .mode) (c .at2 .result) (i .inv .size)
+    put-less _ (i .slots) _ _ (k .place-of .result) _ _ (i .pc) (i .mode) (c .at2 .result) (i .inv .size)
     (k .place-of .ensures) (c .before .before .is-at .result) (c .before .before .is-at .ensures)
     (c .before .if1 .taken) (c .at2 .ensures)
 
@@ -52,8 +52,8 @@ loop-again c = let k = c .before .before .before .before in
       asked = h .asked;
       within = h .within;
       few = h .few;
-      size = length-set (i .table) (k .place-of .result) (c .at2 .result) ∙ h .size;
-      kept = kept-set _ (i .table) (k .place-of .result) (c .at2 .result) (h .kept)
+      size = length-set (i .slots) (k .place-of .result) (c .at2 .result) ∙ h .size;
+      kept = kept-set _ (i .slots) (k .place-of .result) (c .at2 .result) (h .kept)
           (slot-own _ _ _ _ (c .at2 .ensures));
       same = h .same;
     }
@@ -66,14 +66,14 @@ returns c = let d = c .before .before in
     let k = i .before .before .before in
     let h = k .before .before .loop .inv in
     c .report .ensures ∙ rw (c .before .stop-of .ensures)
-    (stops-is _ _ _ _ _ _ _ _ _ _ h (k .before .loop-test .taken) _
+    (stops-is _ _ _ _ _ _ _ _ _ _ _ h (k .before .loop-test .taken) _
     (found _ _ _ _ _ _ (h .size) (h .kept) (k .place-of .ensures) _ (i .before .is-at .ensures) (i .if1 .left)) _
     (a .effect .ensures) _ (d .before .before .is-barred .ensures) (d .if2 .taken))
 
 add-done : tie.Need-add-done Inv-loop μ-loop
 add-done c = let d = c .before .before .before .before .before .before .before in
     let k = d .before .before .before .before .before .before .before .before .before in
-    omega (arith, k .before .loop-test .taken, k .before .before .before .before .before .before .before .pre)
+    omega (arith, k .before .loop-test .taken, k .before .before .before .before .before .before .before .before .pre)
 
 returns-2 : tie.Need-returns-2 Inv-loop μ-loop
 returns-2 c = let f = c .before .before .before in
@@ -83,7 +83,7 @@ returns-2 c = let f = c .before .before .before in
     let i = a .before .before .before in
     let k = i .before .before .before in
     let h = k .before .before .loop .inv in
-    c .report2 .ensures ∙ halted-is _ _ _ _ _ _ _ _ _ _ h (k .before .loop-test .taken) _
+    c .report2 .ensures ∙ halted-is _ _ _ _ _ _ _ _ _ _ _ h (k .before .loop-test .taken) _
     (found _ _ _ _ _ _ (h .size) (h .kept) (k .place-of .ensures) _ (i .before .is-at .ensures) (i .if1 .left)) _
     (a .effect .ensures) _ (d .before .before .is-barred .ensures) (d .if2 .left)
     _ (g .before .before .value-of .ensures) _ (g .write .ensures) _ (f .before .before .before .used-after .ensures)
@@ -104,7 +104,7 @@ loop-again-2 c = let f = c .before .before in
     let i = a .before .before .before in
     let k = i .before .before .before in
     let h = k .before .before .loop .inv in
-    goes _ _ _ _ _ _ _ _ _ _ h (k .before .loop-test .taken) _
+    goes _ _ _ _ _ _ _ _ _ _ _ h (k .before .loop-test .taken) _
     (found _ _ _ _ _ _ (h .size) (h .kept) (k .place-of .ensures) _ (i .before .is-at .ensures) (i .if1 .left)) _
     (a .effect .ensures) _ (d .before .before .is-barred .ensures) (d .if2 .left)
     _ (g .before .before .value-of .ensures) _ (g .write .ensures) _ (f .before .before .before .used-after .ensures)
@@ -112,12 +112,12 @@ loop-again-2 c = let f = c .before .before in
 
 returns-3 : tie.Need-returns-3 Inv-loop μ-loop
 returns-3 c =
-    c .report3 .ensures ∙ spent-is _ _ _ _ _ _ _ _ _ _ (c .before .before .loop .inv) (c .before .loop-test .left)
+    c .report3 .ensures ∙ spent-is _ _ _ _ _ _ _ _ _ _ _ (c .before .before .loop .inv) (c .before .loop-test .left)
 
 pub turns-spec : {M : Type 1} → statement M
 turns-spec = tie.close (tie.spec Inv-loop μ-loop
     (λ c. search needs) (λ c κs. search needs) loop-holds (λ c κs. search needs) mul-s copy-s
-    (λ c κs. search needs) (λ c κs. search needs) mul-table set-table loop-less loop-again
+    (λ c κs. search needs) (λ c κs. search needs) mul-slots set-slots loop-less loop-again
     (λ c κs. search needs) (λ c κs. search needs) (λ c κs. search needs) (λ c κs. search needs) returns
     (λ c κs. search needs) (λ c κs. search needs) (λ c κs. search needs) (λ c κs. search needs)
     (λ c κs. search needs) (λ c κs. search needs) add-done (λ c κs. search needs) returns-2 loop-less-2 loop-again-2

@@ -7,4 +7,4 @@ pub value-of-spec : {M : Type 1} → statement M
 value-of-spec = tie.close (tie.spec
     (λ c κs. search needs)
     (λ c. rw (c .before .if1 .taken) (c .answer-at .ensures))
-    (λ c. search needs))
+    (λ c. rw (c .before .if1 .left)))

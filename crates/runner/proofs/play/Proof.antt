@@ -13,19 +13,20 @@ use Rattle.runner.proofs.play.Statement.{statement}
 use Rattle.runner.proofs.play.Tie as tie
 
 abbrev Inv-loop : tie.InvT-loop
-Inv-loop sheet answers limit reg₀ s₀ c₀ used₀ ticks₀ reg s c used ticks = Holds (sheetSource sheet) limit answers
+Inv-loop sheet answers table limit reg₀ s₀ c₀ used₀ ticks₀ reg s c used ticks = Holds (sheetSource sheet table) limit
+    answers
     (record { reg = reg₀; stages = s₀; counts = c₀ }) (record { reg = reg; stages = s; counts = c }) used ticks
 
 abbrev μ-loop : tie.MeasureT-loop
-μ-loop sheet answers limit reg₀ s₀ c₀ used₀ ticks₀ reg s c used ticks = suc limit - ticks
+μ-loop sheet answers table limit reg₀ s₀ c₀ used₀ ticks₀ reg s c used ticks = suc limit - ticks
 
 loop-holds : tie.Need-loop-holds Inv-loop μ-loop
-loop-holds c = begins _ _ _ _ (c .before .before .before .before .before .pre .bounds)
+loop-holds c = begins _ _ _ _ (c .before .before .before .before .before .before .pre .bounds)
 
 returns : tie.Need-returns Inv-loop μ-loop
 unfolding ranTo
 returns c = let h = c .before .before .before .before .before .before in c .report .ensures
-    ∙ ends _ (sheet-fair _ (h .before .before .before .before .before .before .pre .checked)) _ _ _ _ _ _
+    ∙ ends _ (sheet-fair _ _ (h .before .before .before .before .before .before .before .pre .checked)) _ _ _ _ _ _
     (h .loop .inv) _
     (c .before .before .before .before .next-turn .ensures) _ (c .before .before .turn .given .1)
 
@@ -34,7 +35,7 @@ add-ticks c = let h = c .before .before .before .before .before .before in omega
   arith,
   c .before .before .before .before .before .loop-test .taken,
   h .before .before .before .before .before
-      .before .pre .within,
+      .before .before .pre .within,
 )
 
 loop-less : tie.Need-loop-less Inv-loop μ-loop
@@ -45,8 +46,8 @@ loop-again : tie.Need-loop-again Inv-loop μ-loop
 unfolding awake
 loop-again c = let a = c .before .before .before .before .before .before .before .before in
     let h = a .before .before .before .before .before .before in
-    rw (a .used-after .ensures) (goes _ (sheet-fair _
-    (h .before .before .before .before .before .before .pre .checked)) _ _ _ _ _ _ (h .loop .inv) _
+    rw (a .used-after .ensures) (goes _ (sheet-fair _ _
+    (h .before .before .before .before .before .before .before .pre .checked)) _ _ _ _ _ _ (h .loop .inv) _
     (a .before .before .before .before .next-turn .ensures) _ (a .before .before .enum-told .given .1)
     (λ r o. turn-waits _ _ _ _
     (record {
@@ -67,8 +68,8 @@ loop-again-2 : tie.Need-loop-again-2 Inv-loop μ-loop
 unfolding awake
 loop-again-2 c = let a = c .before .before .before .before .before .before .before .before .before .before .before in
     let h = a .before .before .before .before .before .before in
-    rw (a .used-after .ensures) (goes _ (sheet-fair _
-    (h .before .before .before .before .before .before .pre .checked)) _ _ _ _ _ _ (h .loop .inv) _
+    rw (a .used-after .ensures) (goes _ (sheet-fair _ _
+    (h .before .before .before .before .before .before .before .pre .checked)) _ _ _ _ _ _ (h .loop .inv) _
     (a .before .before .before .before .next-turn .ensures) _ (a .before .before .enum-told .given .1)
     (λ r o. turn-moves _ _ _ _
     (record {

@@ -74,7 +74,7 @@ impl Kind {
             Case::Retire(_) => &[Kind::Retire],
             Case::Start(_) => &[Kind::Start],
             Case::ListStart(_) | Case::ListTick(..) | Case::ListShow => &[Kind::Lists],
-            Case::PutSheet(..) | Case::PutAnswers(..) => &OVER_A_SHEET,
+            Case::PutSheet(..) | Case::PutAnswers(..) | Case::PutTable(..) => &OVER_A_SHEET,
             Case::Run(..) => &[Kind::Runs, Kind::Fuzz],
             Case::Player(..) => &[Kind::Player],
             Case::Panel(..) => &[Kind::Panel],

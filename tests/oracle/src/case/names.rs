@@ -37,7 +37,7 @@ pub fn result_names(case: &Case) -> Vec<String> {
         Case::Hazard(..) => names.push("hazard".to_string()),
         Case::Run(..) | Case::Panel(..) => Run::names(&mut names),
         Case::Player(..) => Played::names(&mut names),
-        Case::ListStart(_) | Case::PutSheet(..) | Case::PutAnswers(..) => {}
+        Case::ListStart(_) | Case::PutSheet(..) | Case::PutAnswers(..) | Case::PutTable(..) => {}
     }
     names
 }

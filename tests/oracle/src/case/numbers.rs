@@ -1,7 +1,7 @@
 //! A case as the numbers of its line.
 
 use super::Case;
-use crate::buffers::{ANSWERS, BLOCK_BYTES, BLOCK_WORDS, Block, SHEET_BYTES};
+use crate::buffers::{ANSWERS, BLOCK_BYTES, BLOCK_WORDS, Block, SHEET_BYTES, TABLE_WORDS};
 use crate::cpu_pipeline::harness::{Numbers, operands};
 use crate::row::Row;
 use crate::rows::Given;
@@ -32,6 +32,7 @@ impl Case {
             Case::Run(..) => 0x14,
             Case::Player(..) => 0x15,
             Case::Panel(..) => 0x16,
+            Case::PutTable(..) => 0x17,
         }
     }
 
@@ -42,21 +43,23 @@ impl Case {
             Case::Arithmetic(given) => given.put(out),
             Case::Halfword(halfword) | Case::ShortOperands(halfword) => halfword.put(out),
             Case::Operands(instruction) => instruction.put(out),
-            Case::Tick(state, offer, answer) => {
-                state.put(out);
-                put_both(offer, answer, out);
-            }
+            Case::Tick(state, given) => put_both(state, given, out),
             Case::Ask(state) | Case::Retire(state) => state.put(out),
             Case::Forwarded(state, register) => put_both(state, register, out),
-            Case::Execute(state, latch) => put_both(state, latch, out),
+            Case::Execute(state, latch, special) => {
+                put_both(state, latch, out);
+                special.put(out);
+            }
             Case::Decode(state, latch) => put_both(state, latch, out),
             Case::Sources(latch) => latch.put(out),
             Case::MulDiv(decoded) => decoded.put(out),
             Case::Hazard(latch, first, second) => put_both(latch, &[*first, *second], out),
             Case::Start(begin) | Case::ListStart(begin) => begin.put(out),
-            Case::ListTick(offer, answer) => put_both(offer, answer, out),
+            Case::ListTick(given) => given.put(out),
             Case::ListShow => {}
-            Case::PutSheet(at, block) | Case::PutAnswers(at, block) => put_both(at, block, out),
+            Case::PutSheet(at, block) | Case::PutAnswers(at, block) | Case::PutTable(at, block) => {
+                put_both(at, block, out);
+            }
             Case::Run(state, given) | Case::Panel(state, given) => put_both(state, given, out),
             Case::Player(begin, given) => put_both(begin, given, out),
         }
@@ -77,10 +80,10 @@ impl Case {
             0x2 => Case::Halfword(read_halfword(rest)?),
             0x3 => Case::Operands(read_instruction(rest)?),
             0x4 => Case::ShortOperands(read_halfword(rest)?),
-            0x5 => Case::Tick(Row::take(rest)?, Row::take(rest)?, Row::take(rest)?),
+            0x5 => Case::Tick(Row::take(rest)?, Row::take(rest)?),
             0x6 => Case::Ask(Row::take(rest)?),
             0x7 => Case::Forwarded(Row::take(rest)?, Row::take(rest)?),
-            0x8 => Case::Execute(Row::take(rest)?, Row::take(rest)?),
+            0x8 => Case::Execute(Row::take(rest)?, Row::take(rest)?, Row::take(rest)?),
             0x9 => Case::Decode(Row::take(rest)?, Row::take(rest)?),
             0xa => Case::Sources(Row::take(rest)?),
             0xb => Case::MulDiv(Row::take(rest)?),
@@ -88,13 +91,14 @@ impl Case {
             0xd => Case::Retire(Row::take(rest)?),
             0xe => Case::Start(Row::take(rest)?),
             0xf => Case::ListStart(Row::take(rest)?),
-            0x10 => Case::ListTick(Row::take(rest)?, Row::take(rest)?),
+            0x10 => Case::ListTick(Row::take(rest)?),
             0x11 => Case::ListShow,
             0x12 => read_block(rest, SHEET_BYTES - BLOCK_BYTES, Case::PutSheet)?,
             0x13 => read_block(rest, ANSWERS - BLOCK_WORDS, Case::PutAnswers)?,
             0x14 => Case::Run(Row::take(rest)?, read_given(rest)?),
             0x15 => Case::Player(Row::take(rest)?, read_given(rest)?),
             0x16 => Case::Panel(Row::take(rest)?, read_given(rest)?),
+            0x17 => read_block(rest, TABLE_WORDS - BLOCK_WORDS, Case::PutTable)?,
             _ => return None,
         })
     }
@@ -126,6 +130,8 @@ fn read_block(rest: &mut &[u32], last: usize, case: fn(u32, Block) -> Case) -> O
 /// Reads what a run is given, within the buffers.
 fn read_given(rest: &mut &[u32]) -> Option<Given> {
     let given = Given::take(rest)?;
-    let held = given.sheet_length as usize <= SHEET_BYTES && given.answer_count as usize <= ANSWERS;
+    let held = given.sheet_length as usize <= SHEET_BYTES
+        && given.answer_count as usize <= ANSWERS
+        && given.table_length as usize <= TABLE_WORDS;
     held.then_some(given)
 }

@@ -11,6 +11,7 @@ pub mod original;
 mod parts;
 mod register_block;
 mod short_numbers;
+mod special_register;
 mod tick;
 mod unknown_words;
 

@@ -44,6 +44,7 @@ pub fn play(sheet: &[u8], mut answers: &[u32], limit: u32) -> Played {
         let task = Task {
             sheet,
             answers,
+            table: &[],
             limit,
         };
         let run = runner::run(&mut original, &state, &task);

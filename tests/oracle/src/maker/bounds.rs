@@ -2,8 +2,9 @@
 
 use super::Maker;
 use crate::cpu_pipeline::harness::Numbers;
-use crate::refusals::{MFSR, register_count};
+use crate::refusals::register_count;
 use crate::rows::{Decoded, IdEx, Raw, State};
+use crate::special_registers::MFSR;
 
 /// Kinds of Normal instructions with one, two and three registers.
 const WITH_REGISTERS: [u32; 12] = [
@@ -15,7 +16,7 @@ impl Maker {
     pub fn go_to_a_bound(&mut self, state: &mut State) {
         match self.random.below(16) {
             0 => state.if_id.raw = Raw::Normal(self.normal_at_some_bound()),
-            1 => state.if_id.raw = Raw::Normal(self.normal_of(MFSR)),
+            1 => state.if_id.raw = Raw::Normal(self.normal_at_a_bound(MFSR)),
             2..6 => self.latch_to_a_bound(&mut state.id_ex),
             6 => state.ex_mem.decoded = self.decoded_at_a_bound(),
             7 => state.ex_mem.dest = self.limit() + 1,
@@ -50,10 +51,10 @@ impl Maker {
         }
     }
 
-    /// Makes a decoded instruction at a bound, or an MFSR.
+    /// Makes a decoded instruction at a bound, an MFSR more often than others.
     pub fn decoded_at_a_bound(&mut self) -> Decoded {
         Decoded::Normal(match self.random.below(3) {
-            0 => self.normal_of(MFSR),
+            0 => self.normal_at_a_bound(MFSR),
             _ => self.normal_at_some_bound(),
         })
     }

@@ -22,7 +22,7 @@ impl Maker {
             4 | 5 => self.name_a_register_at_its_limit(bytes),
             6 => {
                 *bytes = [0x33, self.register() as u8, 0, self.byte(), self.byte()];
-                if self.random.chance(30) {
+                if self.random.chance(60) {
                     self.name_a_register_at_its_limit(bytes);
                 }
             }

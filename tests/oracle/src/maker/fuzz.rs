@@ -17,8 +17,6 @@ const TRIED: u32 = 3_000;
 /// Records at the front that many strings change, and records in the longest sheet.
 const FRONT: u32 = 51;
 const MOST: u32 = (LONGEST / RECORD_BYTES) as u32;
-/// The one command that is always refused.
-const MFSR: u8 = 0x33;
 
 /// The bytes that byte strings share; each changes a few of them.
 pub struct Background {
@@ -48,6 +46,7 @@ impl Maker {
             limit: TRIED,
             sheet_length,
             answer_count: self.random.pick(&[0, 0, 0, 1, 20, 64]),
+            table_length: self.string_table_length(),
         };
         given.limit = self.string_limit(&state, given);
         self.send(&given, out);
@@ -82,6 +81,7 @@ impl Maker {
             self.background.left = SHARING;
             self.background.valid = self.random.chance(80);
             self.wanted.answers[..BLOCK_WORDS].fill_with(|| self.random.word());
+            self.wanted.table[..4 * BLOCK_WORDS].fill_with(|| self.random.word());
             SHEET_BYTES / RECORD_BYTES
         } else if !self.background.valid || self.random.chance(40) {
             FRONT as usize
@@ -106,10 +106,8 @@ impl Maker {
             return sheet::write(&sheet::Record::Normal(instruction));
         }
         let place = self.random.below(COMMANDS.len() as u32) as usize;
-        match COMMANDS[place] {
-            (MFSR, ..) => [0; RECORD_BYTES],
-            (command, _, shape) => self.any_operands(command, shape),
-        }
+        let (command, _, shape) = COMMANDS[place];
+        self.any_operands(command, shape)
     }
 
     /// Makes a valid record of a command with any operands.
@@ -160,6 +158,15 @@ impl Maker {
                 pc,
                 ..self.list_begin()
             }
+        }
+    }
+
+    /// Chooses the length of the table: none, as for the program tickrun, every number, or any.
+    pub fn string_table_length(&mut self) -> u32 {
+        match self.random.below(4) {
+            0 => 0,
+            1 => self.random.below(65_601),
+            _ => self.random.pick(&[65_535, 65_536, 65_600]),
         }
     }
 

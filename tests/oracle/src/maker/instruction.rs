@@ -2,8 +2,9 @@
 
 use super::Maker;
 use crate::cpu_pipeline::harness::{Numbers, short_numbers_of};
-use crate::refusals::{MFSR, register_count};
+use crate::refusals::register_count;
 use crate::rows::{Decoded, Raw};
+use crate::special_registers::MFSR;
 
 /// Kinds of Normal instructions that depend on others or change the path.
 pub const BRANCHES: [u32; 2] = [0x07, 0x08];
@@ -14,8 +15,8 @@ pub const ARITHMETIC: [u32; 16] = [
     0x03, 0x05, 0x06, 0x13, 0x14, 0x15, 0x16, 0x17, 0x18, 0x19, 0x1a, 0x1b, 0x1c, 0x1d, 0x1e, 0x1f,
 ];
 pub const MUL_DIV: [u32; 5] = [0x1b, 0x1c, 0x1d, 0x1e, 0x1f];
-/// NOP, CPUID, HALT, Unknown, IRET, SYSCALL and MTSR.
-pub const SPECIAL: [u32; 7] = [0x00, 0x11, 0x12, 0x26, 0x27, 0x28, 0x2a];
+/// NOP, CPUID, HALT, Unknown, IRET, SYSCALL, MFSR and MTSR.
+pub const SPECIAL: [u32; 8] = [0x00, 0x11, 0x12, 0x26, 0x27, 0x28, MFSR, 0x2a];
 const KINDS: u32 = 0x2b;
 const SHORT_KINDS: u32 = 12;
 const UNKNOWN: u32 = 0x26;
@@ -24,18 +25,16 @@ const UNKNOWN: u32 = 0x26;
 const BUSY_NIBBLES: [u32; 6] = [0x1, 0x3, 0x4, 0x5, 0x6, 0x7];
 
 impl Maker {
-    /// Makes a Normal instruction of any kind but MFSR.
+    /// Makes a Normal instruction of any kind.
     pub fn normal(&mut self) -> Numbers {
-        let variant = match self.random.below(16) {
+        let variant = match self.random.below(17) {
             0 | 1 => self.random.pick(&BRANCHES),
             2 => self.random.pick(&JUMPS),
             3 => self.random.pick(&MEMORY),
             4 => self.random.pick(&MUL_DIV),
             5 => self.random.pick(&SPECIAL),
-            _ => match self.random.below(KINDS - 1) {
-                variant if variant >= MFSR => variant + 1,
-                variant => variant,
-            },
+            6 => MFSR,
+            _ => self.random.below(KINDS),
         };
         self.normal_of(variant)
     }
@@ -51,7 +50,8 @@ impl Maker {
             0x00 | 0x0b | 0x0e..=0x10 | 0x11 | 0x12 | 0x27 => {}
             UNKNOWN => fields = self.unknown_fields(),
             0x28 => fields[0] = self.half(),
-            0x24 | 0x25 | MFSR | 0x2a => fields[1] = self.half(),
+            MFSR => fields[1] = self.special_number(),
+            0x24 | 0x25 | 0x2a => fields[1] = self.half(),
             _ if registers < 3 => fields[registers] = self.offset(),
             _ => {}
         }

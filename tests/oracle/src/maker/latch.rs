@@ -2,7 +2,7 @@
 
 use super::Maker;
 use crate::rows::{
-    Answer, Decoded, ExMem, IdEx, IfId, LOAD, MemWb, NORMAL, Offer, Raw, SHORT, State,
+    Decoded, ExMem, IdEx, IfId, Input, LOAD, MemWb, NORMAL, Offer, Raw, SHORT, State,
 };
 
 /// The widths within bounds.
@@ -76,7 +76,8 @@ impl Maker {
             return self.free_ex_mem();
         }
         let latch = self.id_ex(state);
-        self.original.execute(state, &latch).0
+        let special = self.special(true);
+        self.original.execute(state, &latch, special).0
     }
 
     /// Makes an executed latch with freely combined fields.
@@ -116,14 +117,12 @@ impl Maker {
         before.ex_mem = self.ex_mem(state);
         before.mem_wb.valid = false;
         let loads = self.original.asked(&before).request == LOAD;
-        let answer = Answer {
-            given: loads,
-            word: self.word(),
+        let given = Input {
+            offer: Offer::Nothing,
+            answer: self.answer(loads),
+            special: self.special(true),
         };
-        self.original
-            .tick(&before, &Offer::Nothing, &answer)
-            .0
-            .mem_wb
+        self.original.tick(&before, &given).0.mem_wb
     }
 
     /// Makes an oldest latch with freely combined fields.

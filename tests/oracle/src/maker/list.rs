@@ -4,7 +4,7 @@ use super::Maker;
 use super::program::Program;
 use crate::case::Case;
 use crate::refusals::{self, NONE};
-use crate::rows::{Answer, Offer, Seen, State};
+use crate::rows::{Input, Seen, State};
 
 /// Ticks after the machine has stopped for good.
 const TICKS_AFTER_THE_END: u32 = 4;
@@ -19,9 +19,9 @@ impl Maker {
         out.push(Case::ListStart(begin));
         let mut left = self.length();
         while left > 0 {
-            let (offer, answer) = self.given(&program, &state);
-            out.push(Case::ListTick(offer, answer));
-            state = self.answers.ticked(&state, &offer, &answer).1;
+            let given = self.given(&program, &state);
+            out.push(Case::ListTick(given));
+            state = self.answers.ticked(&state, &given).1;
             if self.random.chance(4) {
                 out.push(Case::ListShow);
             }
@@ -48,23 +48,33 @@ impl Maker {
     }
 
     /// Gives what fits, or now and then something else.
-    fn given(&mut self, program: &Program, state: &State) -> (Offer, Answer) {
-        let (mut offer, mut answer) = self.fitting(program, state);
+    fn given(&mut self, program: &Program, state: &State) -> Input {
+        let mut given = self.fitting(program, state);
         match self.random.below(if state.running { 100 } else { 20 }) {
             0..5 => {
                 let seen = self.seen(state);
-                let spoiled = self.spoiled_offer(&seen);
-                if refusals::offered(&spoiled, &answer, &seen) != NONE {
-                    offer = spoiled;
+                let offer = self.spoiled_offer(&seen);
+                let spoiled = Input { offer, ..given };
+                if refusals::offered(&spoiled, &seen) != NONE {
+                    given = spoiled;
                 }
             }
-            5..8 => answer = self.answer(!answer.given),
+            5..8 => given.answer = self.answer(!given.answer.given),
             8 => {
-                offer = self.spoiled_offer(&Seen::default());
-                answer = self.answer(!answer.given);
+                given.offer = self.spoiled_offer(&Seen::default());
+                given.answer = self.answer(!given.answer.given);
+            }
+            9..12 => given.special = self.special(!given.special.is_given()),
+            12 => {
+                given.answer = self.answer(!given.answer.given);
+                given.special = self.special(!given.special.is_given());
+            }
+            13 => {
+                given.offer = self.spoiled_offer(&Seen::default());
+                given.special = self.special(!given.special.is_given());
             }
             _ => {}
         }
-        (offer, answer)
+        given
     }
 }

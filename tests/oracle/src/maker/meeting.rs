@@ -9,7 +9,7 @@ impl Maker {
     /// Bends a state so that something rare happens in its tick.
     pub fn let_meet(&mut self, state: &mut State) {
         self.let_run(state);
-        match self.random.below(20) {
+        match self.random.below(23) {
             0 | 1 => self.finish_a_wait(state),
             2 => self.begin_a_wait(state),
             3 => self.go_on_waiting(state),
@@ -26,6 +26,7 @@ impl Maker {
             15 => self.empty_latches(state),
             16 => self.do_something_special(state),
             17 | 18 => self.compute(state),
+            19..22 => self.read_a_special_register(state),
             _ => self.touch_r0(state),
         }
     }
@@ -43,7 +44,7 @@ impl Maker {
     }
 
     /// Puts a decoded Normal instruction into ID/EX, with its own operands.
-    fn execute_normal(&mut self, state: &mut State, instruction: Numbers) {
+    pub fn execute_normal(&mut self, state: &mut State, instruction: Numbers) {
         let mut fetched = state.if_id;
         fetched.raw = Raw::Normal(instruction);
         fetched.mode = NORMAL;
@@ -103,14 +104,14 @@ impl Maker {
     }
 
     /// Lets a multiply or divide begin its wait.
-    fn begin_a_wait(&mut self, state: &mut State) {
+    pub fn begin_a_wait(&mut self, state: &mut State) {
         self.execute_mul_div(state);
         state.ex_armed = false;
         state.ex_cycles_left = self.random.pick(&[0, 0, 1, 2, 15]);
     }
 
     /// Lets a wait go on, whatever ID/EX holds.
-    fn go_on_waiting(&mut self, state: &mut State) {
+    pub fn go_on_waiting(&mut self, state: &mut State) {
         state.ex_armed = true;
         state.ex_cycles_left = 2 + self.random.below(14);
         if self.random.chance(30) {
@@ -131,11 +132,11 @@ impl Maker {
     }
 
     /// Makes ID/EX a load whose destination is one of IF/ID's sources.
-    fn name_in_if_id(&mut self, state: &mut State) {
+    pub fn name_in_if_id(&mut self, state: &mut State) {
         state.if_id.valid = self.random.chance(95);
         state.if_id.raw = self.raw();
         if self.random.chance(40) {
-            let variant = self.random.pick(&[0x24, 0x25, 0x2a, 0x02]);
+            let variant = self.random.pick(&[0x24, 0x25, 0x29, 0x2a, 0x02]);
             state.if_id.raw = Raw::Normal(self.normal_of(variant));
         }
         let sources = self.original.sources(&state.if_id);
@@ -223,7 +224,7 @@ impl Maker {
     }
 
     /// Retires a HALT in front of anything.
-    fn halt(&mut self, state: &mut State) {
+    pub fn halt(&mut self, state: &mut State) {
         state.mem_wb.valid = true;
         state.mem_wb.halt = true;
         if self.random.chance(30) {
@@ -247,7 +248,7 @@ impl Maker {
     }
 
     /// Lets ID/EX read these registers, most often with a result that shows it.
-    fn execute_a_reader(&mut self, state: &mut State, registers: [u32; 2]) {
+    pub fn execute_a_reader(&mut self, state: &mut State, registers: [u32; 2]) {
         if self.random.chance(60) {
             let variant = self.random.pick(&[0x02, 0x03, 0x05, 0x07, 0x0b]);
             let instruction = self.normal_of(variant);

@@ -2,27 +2,31 @@
 
 use super::Maker;
 use crate::case::Case;
-use crate::refusals::MFSR;
-use crate::rows::{Answer, LOAD, NORMAL, Offer, Seen};
+use crate::rows::{Answer, Input, LOAD, NORMAL, Offer, Seen};
+use crate::special_registers::MFSR;
 
 impl Maker {
-    /// Makes a state with an offer and an answer.
+    /// Makes a state with what its tick is given.
     pub fn tick(&mut self) -> Case {
         let state = self.state();
         let seen = self.seen(&state);
-        let (offer, answer) = self.offer(&seen);
-        Case::Tick(state, offer, answer)
+        Case::Tick(state, self.input(&seen))
     }
 
-    /// Makes an offer and an answer, mostly those that are wanted.
-    fn offer(&mut self, seen: &Seen) -> (Offer, Answer) {
+    /// Makes an offer and both answers, mostly those that are wanted.
+    fn input(&mut self, seen: &Seen) -> Input {
         let offer = if self.random.chance(88) {
             self.wanted_offer(seen)
         } else {
             self.spoiled_offer(seen)
         };
         let given = (seen.request == LOAD) != self.random.chance(5);
-        (offer, self.answer(given))
+        let special_given = seen.special != self.random.chance(8);
+        Input {
+            offer,
+            answer: self.answer(given),
+            special: self.special(special_given),
+        }
     }
 
     /// Makes a load answer, or none.
@@ -44,12 +48,11 @@ impl Maker {
 
     /// Makes an offer that is most often refused, for each of the reasons.
     pub fn spoiled_offer(&mut self, seen: &Seen) -> Offer {
-        match self.random.below(6) {
+        match self.random.below(5) {
             0 => Offer::Nothing,
             1 => Offer::Normal(self.normal()),
             2 => Offer::Short(self.halfword()),
-            3 => Offer::Normal(self.normal_of(MFSR)),
-            4 => {
+            3 => {
                 let variant = self
                     .random
                     .pick(&[MFSR, 0x03, 0x02, 0x08, 0x0b, 0x24, 0x2a]);

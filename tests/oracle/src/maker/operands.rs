@@ -1,6 +1,7 @@
 //! Pairs of operands at which arithmetic goes wrong first.
 
 use super::Maker;
+use crate::cpu_pipeline::harness::Numbers;
 use crate::rows::{IdEx, State};
 
 /// The least word by -1, zero, signs that differ, and shifts by 31 and more; the first come twice as often.
@@ -17,7 +18,26 @@ const PAIRS: [[u32; 2]; 10] = [
     [1, 0x8000_0000],
 ];
 
+/// Positions in the enum of ADDI, DIV, LDIL and LDIH.
+const ADDI: u32 = 0x04;
+const DIV: u32 = 0x1c;
+const LDIL: u32 = 0x24;
+const LDIH: u32 = 0x25;
+
 impl Maker {
+    /// Makes instructions that divide the least word by -1.
+    pub fn hard_divide(&mut self) -> Vec<Numbers> {
+        let (least, result) = (3 + self.random.below(14), self.register());
+        let minus_one = 17 + self.random.below(15);
+        let of = |variant, fields| Numbers { variant, fields };
+        vec![
+            of(LDIL, [least, 0, 0]),
+            of(LDIH, [least, 0x8000, 0]),
+            of(ADDI, [minus_one, 0, u32::MAX]),
+            of(DIV, [result, least, minus_one]),
+        ]
+    }
+
     /// Lets a latch read such a pair from two registers that no older latch writes.
     pub fn give_hard_operands(&mut self, state: &mut State, latch: &mut IdEx) {
         let place = self.random.below(PAIRS.len() as u32 + 3);

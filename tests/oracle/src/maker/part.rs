@@ -5,6 +5,7 @@ use super::instruction::{ARITHMETIC, SPECIAL};
 use crate::case::Case;
 use crate::refusals;
 use crate::rows::{Decoded, IdEx, IfId, Raw};
+use crate::special_registers;
 
 impl Maker {
     /// Makes a state and a register to forward.
@@ -18,7 +19,7 @@ impl Maker {
         Case::Forwarded(state, register)
     }
 
-    /// Makes a state and a latch to execute.
+    /// Makes a state, a latch to execute, and the word that it asks for, most often.
     pub fn execute(&mut self) -> Case {
         let mut state = self.state();
         let mut latch = if refusals::state_breaks(&state) {
@@ -39,6 +40,7 @@ impl Maker {
                 let variant = self.random.pick(&SPECIAL);
                 latch.decoded = Decoded::Normal(self.normal_of(variant));
             }
+            5 => latch.decoded = Decoded::Normal(self.special_read()),
             _ => {}
         }
         if self.random.chance(30) {
@@ -47,7 +49,9 @@ impl Maker {
         if self.random.chance(6) {
             self.latch_to_a_bound(&mut latch);
         }
-        Case::Execute(state, latch)
+        let asks = special_registers::wanted_by(state.user, &latch).is_some();
+        let given = asks != self.random.chance(8);
+        Case::Execute(state, latch, self.special(given))
     }
 
     /// Makes a state and a latch to decode.

@@ -28,6 +28,11 @@ impl Maker {
             limit: TRIED,
             sheet_length,
             answer_count: 0,
+            table_length: if is_a_string {
+                self.string_table_length()
+            } else {
+                self.table_length()
+            },
         };
         given.answer_count = self.answers_around_the_used(small, &begin, given);
         given.limit = self.instruction_limit(&begin, given);
@@ -58,6 +63,7 @@ impl Maker {
         }
         self.want_records(&records);
         self.records_in_use = records.len() as u32;
+        self.change_the_table();
     }
 
     /// Makes a start at the sheet, in user mode more often than for a run, with any words now and then.

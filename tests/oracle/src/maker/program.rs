@@ -4,7 +4,8 @@ use super::Maker;
 use super::instruction::{BRANCHES, JUMPS, MUL_DIV};
 use crate::cpu_pipeline::harness::Numbers;
 use crate::refusals::{self, NONE};
-use crate::rows::{Answer, Begin, LOAD, NORMAL, Offer, Seen, State};
+use crate::rows::{Begin, Input, LOAD, NORMAL, Offer, Seen, State};
+use crate::special_registers::MFSR;
 
 /// Arithmetic that does not wait, immediate loads, and ADDI for loops.
 const PLAIN: [u32; 17] = [
@@ -56,12 +57,13 @@ impl Maker {
 
     /// Makes a Normal instruction for a program, with short ways for branches and jumps.
     pub fn listed_normal(&mut self, others: u32) -> Numbers {
-        let variant = match self.random.below(37 + others) {
+        let variant = match self.random.below(39 + others) {
             0..11 => self.random.pick(&PLAIN),
             11..22 => self.random.pick(&MEMORY),
             22..29 => self.random.pick(&BRANCHES),
             29..34 => self.random.pick(&MUL_DIV),
             34..37 => self.random.pick(&JUMPS),
+            37 | 38 => MFSR,
             _ => self.random.pick(&OTHERS),
         };
         let mut instruction = self.normal_of(variant);
@@ -117,15 +119,19 @@ impl Maker {
         begin
     }
 
-    /// Gives what the program and some memory offer to a tick on this state.
-    pub fn fitting(&mut self, program: &Program, state: &State) -> (Offer, Answer) {
+    /// Gives what the program, some memory and some special registers offer to a tick on this state.
+    pub fn fitting(&mut self, program: &Program, state: &State) -> Input {
         let seen = self.seen(state);
         let offer = if seen.fetch {
             program.offer_at(seen.pc, seen.mode)
         } else {
             Offer::Nothing
         };
-        (offer, self.answer(seen.request == LOAD))
+        Input {
+            offer,
+            answer: self.answer(seen.request == LOAD),
+            special: self.special(seen.special),
+        }
     }
 
     /// Tells what a tick on this state asks for, or nothing if it is refused anyway.

@@ -49,6 +49,14 @@ impl Maker {
         if self.random.chance(60) {
             self.place_a_loop(&layout, &mut records);
         }
+        if self.random.chance(25) {
+            let placed = self.beside_a_special_read();
+            self.place(placed, &layout, &mut records);
+        }
+        if self.random.chance(2) {
+            let placed = self.hard_divide();
+            self.place(placed, &layout, &mut records);
+        }
         if let Some(last) = records.last_mut().filter(|_| halts) {
             *last = Record::Normal(of(HALT, [0; 3]));
         }
@@ -177,6 +185,21 @@ impl Maker {
         records[first] = Record::Normal(of(ADDI, [register, 0, turns]));
         records[first + length - 1] = Record::Normal(of(ADDI, [register, register, u32::MAX]));
         records[first + length] = Record::Normal(of(BRANCHES[1], [register, 0, back]));
+    }
+
+    /// Places instructions that stand together, but over no pair.
+    fn place(&mut self, placed: Vec<Numbers>, layout: &Layout, records: &mut [Record]) {
+        let Some(room) = records.len().checked_sub(placed.len()) else {
+            return;
+        };
+        let first = self.random.below(room as u32 + 1) as usize;
+        let places = first..first + placed.len();
+        if layout[places.clone()].contains(&true) {
+            return;
+        }
+        for (record, instruction) in records[places].iter_mut().zip(placed) {
+            *record = Record::Normal(instruction);
+        }
     }
 
     /// Gives the address of a record of a kind some places away, backward so many times in a hundred.

@@ -52,6 +52,7 @@ impl Maker {
             limit: 0,
             sheet_length,
             answer_count,
+            table_length: self.table_length(),
         };
         given.limit = limit(self, &state, given);
         self.send(&given, out);
@@ -59,7 +60,7 @@ impl Maker {
         (state, given)
     }
 
-    /// Makes the records of another sheet and other load answers.
+    /// Makes the records of another sheet, other load answers and other words of special registers.
     pub fn next_sheet(&mut self, small: bool) {
         let count = match self.random.below(400) {
             0 if !small => MOST,
@@ -79,10 +80,11 @@ impl Maker {
         for place in block..block + 4 + self.random.below(60) {
             self.wanted.answers[place as usize] = self.answer_word();
         }
+        self.change_the_table();
     }
 
-    /// Makes a load answer: small ones end loops, and some are addresses of records.
-    fn answer_word(&mut self) -> u32 {
+    /// Makes a load answer or a word of a special register: small ones end loops, and some are addresses of records.
+    pub fn answer_word(&mut self) -> u32 {
         match self.random.below(10) {
             0..4 => self.random.below(12),
             4..6 => RECORD_ADDRESSES * self.random.below(self.records_in_use + 1),

@@ -41,6 +41,14 @@ impl Maker {
                 out.push(Case::PutAnswers(at as u32, words));
             }
         }
+        for at in (0..given.table_length as usize).step_by(BLOCK_WORDS) {
+            let block = at..at + BLOCK_WORDS;
+            if self.wanted.table[block.clone()] != self.held.table[block] {
+                let words = self.wanted.table_block(at);
+                self.held.put_table(at as u32, &words);
+                out.push(Case::PutTable(at as u32, words));
+            }
+        }
     }
 
     /// Runs what is wanted.

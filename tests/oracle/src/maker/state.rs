@@ -54,8 +54,8 @@ impl Maker {
         let begin = self.list_begin();
         let mut state = self.original.start(&begin);
         for _ in 0..self.random.below(24) {
-            let (offer, answer) = self.fitting(&program, &state);
-            state = self.answers.ticked(&state, &offer, &answer).1;
+            let given = self.fitting(&program, &state);
+            state = self.answers.ticked(&state, &given).1;
         }
         state
     }

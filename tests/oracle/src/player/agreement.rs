@@ -1,4 +1,4 @@
-//! A play beside the original's pipelined run from the same start, over the same sheet and load answers.
+//! A play beside the original's pipelined run from the same start, over the same sheet, load answers and table.
 
 use super::turns::{refused, turn};
 use super::{End, Played, play};

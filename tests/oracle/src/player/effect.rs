@@ -2,6 +2,7 @@
 
 use super::{normal, short};
 use crate::rows::{Begin, NORMAL, Offer};
+use crate::runner::Task;
 use crate::sheet;
 
 /// What an instruction does once its operands are read.
@@ -24,9 +25,9 @@ pub enum Effect {
 }
 
 /// Gives the effect of what a sheet offers at the place of the values.
-pub fn at(values: &Begin, sheet: &[u8]) -> Effect {
-    match sheet::offer(sheet, values.pc, values.mode) {
-        Offer::Normal(instruction) => normal::effect(values, &instruction),
+pub fn at(values: &Begin, task: &Task) -> Effect {
+    match sheet::offer(task.sheet, values.pc, values.mode) {
+        Offer::Normal(instruction) => normal::effect(values, &instruction, task.table),
         Offer::Short(halfword) => short::effect(values, halfword),
         Offer::Nothing => unreachable!("a sheet offers an instruction at every place"),
     }

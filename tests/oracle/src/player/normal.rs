@@ -5,8 +5,8 @@ use super::effect::{Effect, by_offset, read};
 use crate::cpu_pipeline::harness::Numbers;
 use crate::rows::{Begin, NORMAL, SHORT};
 
-/// Gives the effect of a Normal instruction, jumps apart.
-pub fn effect(values: &Begin, instruction: &Numbers) -> Effect {
+/// Gives the effect of a Normal instruction over a table of special registers, jumps apart.
+pub fn effect(values: &Begin, instruction: &Numbers, table: &[u32]) -> Effect {
     let Numbers {
         variant,
         fields: [a, b, c],
@@ -26,9 +26,10 @@ pub fn effect(values: &Begin, instruction: &Numbers) -> Effect {
         0x07 | 0x08 => Effect::On,
         // CPUID
         0x11 => Effect::Cpuid,
-        // HALT, a privileged instruction in user mode
-        0x12 if values.user => Effect::Stop,
+        // HALT and MFSR, privileged instructions in user mode
+        0x12 | 0x29 if values.user => Effect::Stop,
         0x12 => Effect::Halt,
+        0x29 => special_word(table, b).map_or(Effect::Stop, |word| Effect::Put(a, word)),
         // LDIL, LDIH
         0x24 => Effect::Put(a, (read(a) & 0xffff_0000) | b),
         0x25 => Effect::Put(a, (read(a) & 0x0000_ffff) | (b << 16)),
@@ -39,6 +40,12 @@ pub fn effect(values: &Begin, instruction: &Numbers) -> Effect {
             None => jump(values, variant, a),
         },
     }
+}
+
+/// Gives the word of a special register, or nothing for a number outside the table.
+fn special_word(table: &[u32], number: u32) -> Option<u32> {
+    let place = number as usize;
+    (place < table.len()).then(|| table[place])
 }
 
 /// Gives the effect of a jump, whose only field is an offset or a register.
@@ -56,6 +63,6 @@ fn jump(values: &Begin, variant: u32, field: u32) -> Effect {
         0x0f => Effect::Link(far(), NORMAL),
         0x0e => Effect::Go(far(), SHORT),
         0x10 => Effect::Link(far(), SHORT),
-        _ => unreachable!("MFSR is refused, and every other kind has its arm"),
+        _ => unreachable!("every other kind has its arm"),
     }
 }

@@ -46,7 +46,7 @@ pub fn turn(task: &Task, played: &mut Played) -> Option<End> {
     if played.done == task.limit {
         return Some(End::Spent);
     }
-    let effect = effect::at(&played.values, task.sheet);
+    let effect = effect::at(&played.values, task);
     if effect == Effect::Stop {
         return Some(End::Stopped);
     }

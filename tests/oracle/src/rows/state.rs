@@ -1,6 +1,6 @@
 //! The whole state, what start is given, and what a tick is given and asks for.
 
-use super::{ExMem, IdEx, IfId, MemWb};
+use super::{ExMem, IdEx, IfId, MemWb, Offer, Special};
 use crate::row::row;
 
 row! {
@@ -48,16 +48,38 @@ row! {
 }
 
 row! {
+    /// What a tick is given besides the state.
+    Input {
+        offer: Offer,
+        answer: Answer,
+        special: Special,
+    }
+}
+
+impl Input {
+    /// No instruction and neither answer.
+    pub const NOTHING: Self = Self {
+        offer: Offer::Nothing,
+        answer: Answer {
+            given: false,
+            word: 0,
+        },
+        special: Special::NotGiven,
+    };
+}
+
+row! {
     /// What a run is given besides the state and the buffers: the limit and how much of each buffer.
     Given {
         limit: u32,
         sheet_length: u32,
         answer_count: u32,
+        table_length: u32,
     }
 }
 
 row! {
-    /// What a tick asks for: a fetch or none, then a load, a store or none.
+    /// What a tick asks for: a fetch or none, then a load, a store or none, then a special register or none.
     #[derive(Default)]
     Seen {
         fetch: bool,
@@ -67,6 +89,8 @@ row! {
         address: u32,
         width: u32,
         word: u32,
+        special: bool,
+        register: u32,
     }
 }
 

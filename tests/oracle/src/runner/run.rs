@@ -11,6 +11,8 @@ const HASH_FACTOR: u32 = 16_777_619;
 pub struct Task<'a> {
     pub sheet: &'a [u8],
     pub answers: &'a [u32],
+    /// The words of the special registers, each at the place of its number.
+    pub table: &'a [u32],
     pub limit: u32,
 }
 

@@ -3,8 +3,9 @@
 use super::{End, Run, Task};
 use crate::cpu_pipeline::harness::original::Original;
 use crate::refusals::{self, BAD_LENGTH, LIMIT_TOO_HIGH, NONE, OUT_OF_BOUNDS};
-use crate::rows::{Answer, LOAD, Seen, State};
+use crate::rows::{Answer, Input, LOAD, Seen, State};
 use crate::sheet;
+use crate::special_registers;
 
 /// The highest tick limit.
 pub const HIGHEST_LIMIT: u32 = 1_000_000;
@@ -53,7 +54,7 @@ pub fn turn(original: &mut Original, task: &Task, run: &mut Run, left: &mut &[u3
     if let Some(end) = ended(&run.state, run.ticks, task.limit) {
         return Some(end);
     }
-    let (next, seen) = fed_tick(original, &run.state, task.sheet, left.first());
+    let (next, seen) = fed_tick(original, &run.state, task, left.first());
     if seen.request == LOAD && left.split_off_first().is_none() {
         return Some(End::Loads);
     }
@@ -80,18 +81,23 @@ fn ended(state: &State, ticks: u32, limit: u32) -> Option<End> {
 fn fed_tick(
     original: &mut Original,
     state: &State,
-    sheet: &[u8],
+    task: &Task,
     word: Option<&u32>,
 ) -> (State, Seen) {
     let answer = Answer {
         given: word.is_some(),
         word: word.copied().unwrap_or(0),
     };
+    let special = special_registers::answer(task.table, state);
+    let given_at = |pc, mode| Input {
+        offer: sheet::offer(task.sheet, pc, mode),
+        answer,
+        special,
+    };
     let (pc, mode) = (state.fetch_pc, state.fetch_mode);
-    let (next, seen) = original.tick(state, &sheet::offer(sheet, pc, mode), &answer);
+    let (next, seen) = original.tick(state, &given_at(pc, mode));
     if !seen.fetch || (seen.pc, seen.mode) == (pc, mode) {
         return (next, seen);
     }
-    let offer = sheet::offer(sheet, seen.pc, seen.mode);
-    original.tick(state, &offer, &answer)
+    original.tick(state, &given_at(seen.pc, seen.mode))
 }

@@ -4,6 +4,7 @@ use super::RECORD_BYTES;
 use super::command::{self, Shape};
 use crate::cpu_pipeline::harness::Numbers;
 use crate::refusals::{self, BAD_RECORD, NONE};
+use crate::special_registers::MFSR;
 
 /// What a record offers.
 #[derive(Debug, Clone, Copy, PartialEq, Eq)]
@@ -12,7 +13,7 @@ pub enum Record {
     Pair([u32; 2]),
 }
 
-/// Gives a record's refusal: 5, then 1, then 2, or none.
+/// Gives a record's refusal: 5, then 1, or none.
 pub fn refuse(bytes: &[u8; RECORD_BYTES]) -> u32 {
     match read(bytes) {
         None => BAD_RECORD,
@@ -42,6 +43,17 @@ pub fn read(bytes: &[u8; RECORD_BYTES]) -> Option<Record> {
         Shape::Pair => return Some(Record::Pair([first, second])),
     };
     Some(Record::Normal(Numbers { variant, fields }))
+}
+
+/// Gives the number of the special register that a record's MFSR reads.
+pub fn special_register(bytes: &[u8; RECORD_BYTES]) -> Option<u32> {
+    match read(bytes)? {
+        Record::Normal(Numbers {
+            variant: MFSR,
+            fields: [_, register, _],
+        }) => Some(register),
+        _ => None,
+    }
 }
 
 /// Writes a record that read reads back.

@@ -9,14 +9,5 @@ pub code-spec : {M : Type 1} → statement M
 unfolding instructionCode
 code-spec = tie.close (tie.spec
     (λ c κs. search needs) (λ c κs. search needs)
-    (λ c. rw (
-      sym (c .before .before .before .operands .ensures),
-      sym (c .before .before .in-bounds .ensures) ∙ c .before .if1 .taken,
-      c .if2 .taken,
-    ))
-    (λ c. rw (
-      sym (c .before .before .before .operands .ensures),
-      sym (c .before .before .in-bounds .ensures) ∙ c .before .if1 .taken,
-      c .if2 .left,
-    ))
+    (λ c. rw (sym (c .before .before .operands .ensures), sym (c .before .in-bounds .ensures) ∙ c .if1 .taken))
     (λ c. rw (sym (c .before .before .operands .ensures), sym (c .before .in-bounds .ensures) ∙ c .if1 .left)))

@@ -94,5 +94,5 @@ effect-spec = tie.close (tie.spec
     (λ c. simp (c .before .enum-told24 .given .1, c .raises .ensures))
     (λ c. simp (c .before .before .enum-told25 .given .1, c .privileged2 .ensures, c .before .resumes .ensures))
     (λ c. simp (c .before .before .self16 .given .1, c .raises2 .ensures))
-    (λ c. simp (c .before .before .enum-told26 .given .1, c .privileged3 .ensures, c .before .raises3 .ensures))
-    (λ c. simp (c .before .before .before .self17 .given .1, c .privileged4 .ensures, c .before .sets .ensures)))
+    (λ c. simp (c .before .before .before .self17 .given .1, c .privileged3 .ensures, c .before .inquires .ensures))
+    (λ c. simp (c .before .before .before .self18 .given .1, c .privileged4 .ensures, c .before .sets .ensures)))

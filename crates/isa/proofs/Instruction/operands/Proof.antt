@@ -70,5 +70,5 @@ operands-spec = tie.close (tie.spec
     (λ c. simp (c .before .enum-told8 .given .1, c .bare6 .ensures))
     (λ c. simp (c .before .enum-told9 .given .1, c .bare7 .ensures))
     (λ c. simp (c .before .enum-told10 .given .1, c .bare8 .ensures))
-    (λ c. simp (c .before .before .self32 .given .1, c .special .ensures))
+    (λ c. simp (c .before .before .self32 .given .1, c .writes3 .ensures))
     (λ c. simp (c .before .before .self33 .given .1, c .reads3 .ensures)))

@@ -10,7 +10,7 @@ use Rattle.isa.specs.Names.{Add, Addi, And, Beq, Bne, Cpuid, DecNormal, 
 use Rattle.isa.specs.Names.{Jalr, Jalrs, Jals, Jmp, Jmps, Jr, Jrs, Ld, Ldb, Ldh, Ldih, Ldil, Mfsr, Mod, Mtsr, Mul}
 use Rattle.isa.specs.Names.{Mulh, Nop, Or, Sla, Sll, Slt, Sltu, Sra, Srl, St, Stb, Sth, Sub, Syscall, Unknown}
 use Rattle.isa.specs.Names.{Xor}
-use Rattle.isa.specs.Operands.{bare, binary, branching, loading, operandsN, operandsOf, plain, reads, special}
+use Rattle.isa.specs.Operands.{bare, binary, branching, loading, operandsN, operandsOf, plain, reads}
 use Rattle.isa.specs.Operands.{storing, unary, writes}
 use Rattle.isa.specs.Waits.{waits}
 use Rattle.isa.proofs.Instruction.waits.Statement.{statement}
@@ -25,7 +25,6 @@ others =
 -- they wait for nothing
 rest : (i : Instruction) → OneOf others (tagOf the-type i) → 0 ≡ waits (DecNormal i)
 unfolding others waits operandsOf operandsN plain bare writes unary binary reads loading storing branching
-    special
 rest i = elim i [
   | Nop ↦ λ k. refl
   | Ld a b d ↦ λ k. refl

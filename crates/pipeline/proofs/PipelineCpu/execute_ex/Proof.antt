@@ -12,10 +12,22 @@ execute-ex-spec = tie.close (tie.spec
     (λ c κs. search needs) (λ c κs. search needs)
     (λ c. rw (sym (c .before .before .out-of-bounds .ensures), sym (c .before .out-of-bounds2 .ensures), c .if1 .taken))
     (λ c κs. search needs) (λ c κs. search needs)
-    (λ c. rw (
+    (λ c. let k = c .before .before .before .before in rw (
+      sym (k .before .before .out-of-bounds .ensures),
+      sym (k .before .out-of-bounds2 .ensures),
+      k .if1 .left,
+      sym (c .before .before .effect-from .ensures),
+      sym (c .before .fits-special .ensures),
+      c .if2 .taken,
+    ))
+    (λ c κs. search needs) (λ c κs. search needs)
+    (λ c. let d = c .before .before in let k = d .before .before .before .before in rw (
       c .ex-mem .ensures,
-      c .before .effect-from .ensures,
-      sym (c .before .before .before .before .before .out-of-bounds .ensures),
-      sym (c .before .before .before .before .out-of-bounds2 .ensures),
-      c .before .before .before .if1 .left,
+      c .before .filled .ensures,
+      sym (k .before .before .out-of-bounds .ensures),
+      sym (k .before .out-of-bounds2 .ensures),
+      k .if1 .left,
+      sym (d .before .before .effect-from .ensures),
+      sym (d .before .fits-special .ensures),
+      d .if2 .left,
     )))

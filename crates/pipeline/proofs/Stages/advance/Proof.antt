@@ -1,20 +1,23 @@
 -- `pipeline::Stages::advance` meets its contract. Assumes nothing.
 use borrow.Author.Needs.{needs}
-use mathlib.Core.Path.{sym}
-use Rattle.pipeline.specs.Advance.{advanceBy, idExAfter, ifIdAfter, placeAfter, waitAfter}
-use Rattle.pipeline.specs.Move.{isWait}
-use Rattle.pipeline.specs.Plans.{advancePlan}
+use mathlib.Core.Path.{_∙_, sym}
+use Rattle.pipeline.specs.Advance.{advanceBy}
+use Rattle.pipeline.specs.Inner.{moveOn}
+use Rattle.pipeline.specs.Plans.{advancePlan, saidExMem}
 use Rattle.pipeline.proofs.Stages.advance.Statement.{statement}
 use Rattle.pipeline.proofs.Stages.advance.Tie as tie
 
 pub advance-spec : {M : Type 1} → statement M
-unfolding advancePlan advanceBy idExAfter ifIdAfter isWait waitAfter placeAfter
+unfolding advancePlan saidExMem moveOn advanceBy
 advance-spec = tie.close (tie.spec
-    (λ c. search needs) (λ c κs. search needs) (λ c. search needs) (λ c κs. search needs)
-    (λ c. search needs) (λ c κs. search needs) (λ c. search needs) (λ c κs. search needs)
-    (λ c κs. search needs) (λ c. search needs) (λ c κs. search needs)
-    (λ c. rw (c .before .enum-told .given .1) (c .keep-waiting .ensures))
-    (λ c. rw (c .before .enum-told2 .given .1) (c .begin-wait .ensures))
-    (λ c. rw (c .before .before .step .given .1) (c .load-use-stall .ensures))
-    (λ c. rw (c .before .before .enum-told3 .given .1, sym (c .before .id-ex-from .ensures)) (c .proceed .ensures))
-    (λ c. rw (c .before .before .step2 .given .1) (c .redirect .ensures)))
+    (λ c κs. search needs) (λ c κs. search needs) (λ c κs. search needs) (λ c κs. search needs)
+    (λ c. let k = c .before .before .before in rw (
+      k .before .move-on .ensures,
+      c .ex-mem .ensures,
+      c .before .effect .ensures,
+      sym (k .is-some .ensures) ∙ c .before .before .if1 .taken,
+    ))
+    (λ c. rw (
+      c .before .before .move-on .ensures,
+      sym (c .before .is-some .ensures) ∙ c .if1 .left,
+    )))

@@ -1,12 +1,18 @@
 -- `player::Slot::effect` meets its contract. Assumes nothing.
 use borrow.Author.Needs.{needs}
-use mathlib.Core.Path.{_∙_}
-use Rattle.player.specs.Inner.{effectIn}
+use Rattle.player.specs.Inner.{effectIn, openIn}
 use Rattle.player.proofs.Slot.effect.Statement.{statement}
 use Rattle.player.proofs.Slot.effect.Tie as tie
 
 pub effect-spec : {M : Type 1} → statement M
-unfolding effectIn
+unfolding effectIn openIn
 effect-spec = tie.close (tie.spec
-    (λ c κs. search needs) (λ c κs. search needs) (λ c κs. search needs)
-    (λ c. c .effect .ensures ∙ rw (c .before .before .read-reg .ensures, c .before .read-reg2 .ensures)))
+    (λ c κs. search needs) (λ c κs. search needs) (λ c κs. search needs) (λ c κs. search needs)
+    (λ c κs. search needs)
+    (λ c. rw (
+      c .filled .ensures,
+      c .before .special-at .ensures,
+      c .before .before .effect .ensures,
+      c .before .before .before .before .read-reg .ensures,
+      c .before .before .before .read-reg2 .ensures,
+    )))

@@ -2,8 +2,8 @@
 
 use super::original::{Original, other_features};
 use super::unknown_words::UnknownWords;
-use super::{PipelineCpu, feature_word, from_core, into_core};
-use crate::rows::{self, Offer, Redirect, State};
+use super::{PipelineCpu, feature_word, from_core, into_core, special_register};
+use crate::rows::{self, Offer, Redirect, Special, State};
 
 impl Original {
     /// Gives what is forwarded for a register.
@@ -16,14 +16,23 @@ impl Original {
         }
     }
 
-    /// Executes a latch.
-    pub fn execute(&mut self, state: &State, latch: &rows::IdEx) -> (rows::ExMem, Redirect) {
+    /// Executes a latch, an MFSR with the word of its register or none.
+    pub fn execute(
+        &mut self,
+        state: &State,
+        latch: &rows::IdEx,
+        special: Special,
+    ) -> (rows::ExMem, Redirect) {
         self.load(state, &mut words_of(state));
-        self.core.id_ex = into_core::id_ex(latch);
+        let held = into_core::id_ex(latch);
+        self.core.id_ex = held;
         if let Some(features) = other_features(state) {
             feature_word::put_in_place(&mut self.core, features);
         }
-        let (ex_mem, redirect) = self.core.execute_ex(&self.core.id_ex);
+        special_register::put_in_place(&mut self.core, special);
+        let altered = self.core.id_ex;
+        let (mut ex_mem, redirect) = self.core.execute_ex(&altered);
+        special_register::give_back(&mut ex_mem.decoded, altered.decoded, held.decoded);
         let redirect = redirect.map_or(Redirect::default(), |(target, mode)| Redirect {
             redirect: true,
             target,
