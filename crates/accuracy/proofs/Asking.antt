@@ -11,19 +11,21 @@ use Rattle.isa.specs.Refusals.{instructionCode, isOf, rawCode}
 use Rattle.isa.specs.Short.{decodedOf}
 use Rattle.latch.specs.Memory.{requestIn, requests}
 use Rattle.pipeline.specs.Advance.{awake, next}
-use Rattle.pipeline.specs.Ask.{ask, askedBy, asks, fetchAt, fetchOf, loadsIn, wantFetch, wantLoad, wanted}
+use Rattle.pipeline.specs.Ask.{ask, askedBy, asks, fetchAt, fetchOf, loadsIn, wantFetch, wantLoad, wantOrigins}
+use Rattle.pipeline.specs.Ask.{wanted}
 use Rattle.pipeline.specs.Counting.{counterFull}
 use Rattle.pipeline.specs.Refusals.{andThen, codeOf, faulty, outOfBounds, stateTests}
 use Rattle.pipeline.specs.Retire.{retireStages}
 use Rattle.pipeline.specs.Tick.{Result, fitsOffer, fitsSpecial, isAnswer, moved, offerCode, refused, same, taken}
 use Rattle.pipeline.specs.Tick.{tests, tick, verdict}
+use Rattle.accuracy.proofs.Shows.{hides, shows}
 use Rattle.accuracy.proofs.Took.{takes, took}
 use Rattle.accuracy.specs.Accuracy.{Run, offered, offeredBy, one, oneBy, said, saidBy}
 use Rattle.accuracy.specs.Asking.{Asking, Gives, fitsFetch, isLoad, listed}
 use Rattle.accuracy.specs.Names.{Answer, Fetch, From, Given, Inquiry, Instr, Load, Mode, NoAnswer, NoFetch}
 use Rattle.accuracy.specs.Names.{NoInquiry, NoRequest, NoSuch, Nop, Normal, NotAsked, Nothing, Of, Offer}
-use Rattle.accuracy.specs.Names.{PipelineCpu, Place, RawInstr, RawNormal, RawShort, Request, Short, Special}
-use Rattle.accuracy.specs.Names.{Stages, Store, Unsaid, Wanted, Wants, Word}
+use Rattle.accuracy.specs.Names.{PipelineCpu, Place, RawInstr, RawNormal, RawShort, Request, Short, Shown}
+use Rattle.accuracy.specs.Names.{Special, Stages, Store, Unsaid, Wanted, Wants, Word}
 
 -- the offer that is wanted, by the fetch that asking names
 fits-same : (b : Bool) (p : Place) (o : Offer) → fitsFetch (fetchOf b p) o ≡ fitsOffer b (p .mode) o
@@ -175,6 +177,11 @@ says r w t ts n e g f =
     let k = stands (r .state) w e in
     rw (accepts (r .state) w t e g, ap (λ (x : Wanted). x .special) (k .is) ∙ f)
 
+-- the origins that asking names
+shown : (s : PipelineCpu) (w : Wanted) → ask s ≡ Wants w → wantOrigins s ≡ w .origins
+unfolding wanted
+shown s w e = ap (λ (x : Wanted). x .origins) ((stands s w e) .is)
+
 -- where asking is refused, so is the tick, by the three tests
 refuses-by : (a b c : Bool) (x : Wanted) (o : Result) (n : ℕ)
     → askedBy (cond a 11 (cond b 12 (cond c 13 0))) x ≡ NotAsked n
@@ -208,12 +215,12 @@ special-for NoInquiry = Unsaid
 special-for (Of n) = NoSuch
 
 -- these give what is wanted
-given-for : (f : Fetch) (q : Request) (i : Inquiry)
-    → Gives (record { fetch = f; request = q; special = i })
+given-for : (f : Fetch) (q : Request) (i : Inquiry) (o : Shown)
+    → Gives (record { fetch = f; request = q; special = i; origins = o })
     (record { offer = offer-for f; answer = answer-for q; special = special-for i })
 unfolding offer-for answer-for special-for isSaid isInquiry fitsFetch fitsOffer isOf offerCode rawCode instructionCode
     isAnswer isLoad operandsN okOperands bare plain okDest
-given-for f q i = record { offer = fit f; code = coded f; answer = ans q; special = spe i }
+given-for f q i o = record { offer = fit f; code = coded f; answer = ans q; special = spe i }
   where
     fit : (f : Fetch) → fitsFetch f (offer-for f) ≡ true
     fit NoFetch = refl
@@ -243,12 +250,14 @@ asking = record {
       answer = answer-for (w .request);
       special = special-for (w .special);
     },
-    given-for (w .fetch) (w .request) (w .special),
+    given-for (w .fetch) (w .request) (w .special) (w .origins),
   );
   accepts = accepts;
   only = gives;
   offers = offers;
   says = says;
   requests = grow;
+  shows = λ s s′ w t o e h f. shows s s′ t o (shown s w e ∙ f) h;
+  hides = λ s s′ w t e h f. hides s s′ t (shown s w e ∙ f) h;
   refuses = refuses;
 }

@@ -171,7 +171,7 @@ wait-in true n h = omega arith
 wait-in false n h = h
 
 -- retirement, each move, a tick of a machine that has stopped
-retire-in : (l : Stages) → Within l → Within (retireStages l)
+pub retire-in : (l : Stages) → Within l → Within (retireStages l)
 unfolding retireStages
 retire-in l w = split (halts (l .«mem_wb»))
     (λ e. record {

@@ -8,6 +8,7 @@ use Rattle.accuracy.proofs.Bounds.{fresh-in, tick-in}
 use Rattle.accuracy.proofs.Example.{example}
 use Rattle.accuracy.proofs.Forwarding.{fwd-writes}
 use Rattle.accuracy.proofs.Offers.{first-agrees, first-says, source-agrees, source-says}
+use Rattle.accuracy.proofs.Origins.{from-origins}
 use Rattle.accuracy.proofs.Sense.{numbered, only-tick}
 use Rattle.accuracy.specs.Accuracy.{Run, one, oneBy}
 use Rattle.accuracy.specs.Claims.{Claims}
@@ -43,5 +44,6 @@ claims = record {
   fresh = fresh-in;
   keeps = tick-in;
   forwarding = fwd-writes;
+  origins = from-origins;
   example = example;
 }

@@ -64,9 +64,10 @@ oddMode k Keep Next = false
 oddMode k Keep (To p m) = notMode k m
 oddMode k (ToMode n) h = false
 
--- a width that is none, or more than two sources
+-- a width that is none, more than two sources, or none but a first source other than R0
 unfoldable pub oddBounds : Operands → Effect → Bool
-oddBounds o e = badWidth (e .access .«mem_size») || ltb 2 (o .«n_srcs»)
+oddBounds o e = badWidth (e .access .«mem_size») ||
+    (ltb 2 (o .«n_srcs») || (not (ltb 0 (o .«n_srcs»)) && not (eqb (o .«src_a») 0)))
 
 -- a latency that is not a multiply's or divide's, by the instructions that these are
 unfoldable pub oddLatency : Bool → Bool → Operands → Bool
@@ -347,9 +348,19 @@ pub width-in : (u : Bool) (i : Decoded) (p x y : ℕ) → badWidth ((effectOf u 
 unfolding oddBounds
 width-in u i p x y = or-l (badWidth ((effectOf u i p x y) .access .«mem_size»)) _ ((even u i p Normal x y) .bounds)
 
-pub sources-in : (i : Decoded) → ltb 2 ((operandsOf i) .«n_srcs») ≡ false
+sources-rest : (i : Decoded) → (ltb 2 ((operandsOf i) .«n_srcs») || (not (ltb 0 ((operandsOf i) .«n_srcs»)) && not
+    (eqb ((operandsOf i) .«src_a») 0))) ≡ false
 unfolding oddBounds
-sources-in i = or-r (badWidth ((effectOf false i 0 0 0) .access .«mem_size»)) _ ((even false i 0 Normal 0 0) .bounds)
+sources-rest i = or-r (badWidth ((effectOf false i 0 0 0) .access .«mem_size»)) _ ((even false i 0 Normal 0 0) .bounds)
+
+pub sources-in : (i : Decoded) → ltb 2 ((operandsOf i) .«n_srcs») ≡ false
+sources-in i = or-l (ltb 2 ((operandsOf i) .«n_srcs»)) _ (sources-rest i)
+
+-- no source: the first is R0
+pub no-source : (i : Decoded) → ltb 0 ((operandsOf i) .«n_srcs») ≡ false → (operandsOf i) .«src_a» ≡ 0
+no-source i e = eqb-true ((operandsOf i) .«src_a») 0
+    (un-not _ (and-r (not (ltb 0 ((operandsOf i) .«n_srcs»))) _ (or-r (ltb 2 ((operandsOf i) .«n_srcs»)) _
+    (sources-rest i)) (rw e)))
 
 pub on-on : (g h : Redirect) (p : ℕ) (m : Mode) → (isTo h || isTo g) ≡ false → mispredict (isTo g) h p m ≡ Next
 unfolding isTo mispredict

@@ -11,7 +11,9 @@ pub mod Offers
 pub mod Accuracy
 pub mod Bounds
 pub mod Sense
+pub mod Shows
 pub mod Forwarding
+pub mod Origins
 pub mod Asking
 pub mod Example
 pub mod Claims

@@ -6,13 +6,18 @@ use mathlib.Core.Path.{_≡_}
 use Rattle.isa.specs.Inquiries.{isInquiry, isSaid}
 use Rattle.isa.specs.Machine.{Source}
 use Rattle.isa.specs.Short.{decodedOf}
+use Rattle.latch.specs.Latches.{emptyExMem}
 use Rattle.pipeline.specs.Advance.{next}
 use Rattle.pipeline.specs.Ask.{ask}
+use Rattle.pipeline.specs.Execute.{effectFor}
+use Rattle.pipeline.specs.Parts.{executePart}
+use Rattle.pipeline.specs.Retire.{retire}
 use Rattle.pipeline.specs.Tick.{fitsOffer, isAnswer, moved, offerCode, refused, taken, tick}
 use Rattle.pipeline.specs.Turn.{reply}
 use Rattle.accuracy.specs.Accuracy.{Run, offered, one, said}
-use Rattle.accuracy.specs.Names.{Fetch, From, Given, Instr, Load, Mode, NoFetch, NoRequest, Normal, NotAsked}
-use Rattle.accuracy.specs.Names.{Of, Offer, PipelineCpu, RawInstr, Request, Store, Wanted, Wants}
+use Rattle.accuracy.specs.Names.{Both, Done, ExMem, Fetch, From, Given, Instr, Load, Mode, NoFetch, NoOrigins}
+use Rattle.accuracy.specs.Names.{NoRequest, Normal, NotAsked, Of, Offer, Origins, PipelineCpu, RawInstr, Request}
+use Rattle.accuracy.specs.Names.{Special, Store, Wanted, Wants}
 
 -- an instruction of the mode that is wanted, or Nothing where no fetch is
 unfoldable pub fitsFetch : Fetch → Offer → Bool
@@ -38,6 +43,14 @@ pub record Gives (w : Wanted) (t : Given) : Type 0 where
   pub answer : isAnswer (t .answer) ≡ isLoad (w .request)
   pub special : isSaid (t .special) ≡ isInquiry (w .special)
 
+-- execution by itself, called with ID/EX once MEM/WB has retired, gives EX/MEM x and the origins o; c: what it is told
+abbrev pub Executes : PipelineCpu → Special → ExMem → Origins → Type 0
+Executes s c x o =
+    let s₁ = retire s in
+    let d = s₁ .stages .«id_ex» in
+    executePart s₁ d c
+    ≡ Done (record { «ex_mem» = x; redirect = (effectFor (s₁ .stages) (s₁ .reg) d) .redirect; origins = o })
+
 pub record Asking : Type 0 where
   -- what is wanted can be given
   pub given : (w : Wanted) → (t : Given) × Gives w t
@@ -55,6 +68,12 @@ pub record Asking : Type 0 where
   -- a list's requests grow by the one that is wanted
   pub requests : (r : Run) (w : Wanted) (t : Given) → ask (r .state) ≡ Wants w → Gives w t
       → (one r t) .requests ≡ r .requests ++ listed (w .request)
+  -- the origins shown are those that execution by itself passes on, and it gives the EX/MEM that the tick leaves
+  pub shows : (s s′ : PipelineCpu) (w : Wanted) (t : Given) (o : Origins) → ask s ≡ Wants w → tick s t ≡ moved s′
+      → w .origins ≡ Both o → Executes s (t .special) (s′ .stages .«ex_mem») o
+  -- where none are shown nothing executes: a running machine's tick leaves EX/MEM empty
+  pub hides : (s s′ : PipelineCpu) (w : Wanted) (t : Given) → ask s ≡ Wants w → tick s t ≡ moved s′
+      → w .origins ≡ NoOrigins → s .stages .running ≡ true → s′ .stages .«ex_mem» ≡ emptyExMem
   -- where asking is refused, every tick is, with the same number
   pub refuses : (s : PipelineCpu) (n : ℕ) (t : Given) → ask s ≡ NotAsked n → tick s t ≡ refused n
 

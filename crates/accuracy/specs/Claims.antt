@@ -1,21 +1,26 @@
 -- Read this first: what is claimed of the pipeline, and the definitions that it rests on, in the order of RULES.
 -- word: Words. isa: Short (short decode), Operands, Effect (execute), Waits (MUL to MOD, used loads, prediction),
 -- Registers, Redirects, Refusals (1), Inquiries (special registers), Machine (the one-at-a-time machine). latch:
--- Latches, Decode, Forwarding, Execute, Memory, Retire, Bounds (refusal 11 of each latch). pipeline: Forwarding,
+-- Latches, Decode, Forwarding, Execute, Memory, Retire, Bounds (refusal 11 of each latch). origin: Origins (where a
+-- value comes from). pipeline: Forwarding,
 -- Execute, Counting, Retire, Move, Fetch, Advance (the tick's moves), Start, Refusals (11, 12, 13), Ask (asking),
 -- Tick (3, 4, 10), Turn (a source's tick).
 -- Here: Count (M, D, L, R, the formula), Accuracy (RULES 15.6), Asking, Example.
 use Prim.Native.Nat.{suc, ℕ}
 use lib.ListN.{length}
-use mathlib.Core.Bool.{false, true}
+use mathlib.Core.Bool.{Bool, false, true}
 use mathlib.Core.List.{List, _++_, _∷_}
 use mathlib.Core.Path.{_≡_}
 use Rattle.isa.specs.Machine.{Arch, Program, Source}
 use Rattle.isa.specs.Operands.{okDest}
 use Rattle.isa.specs.Registers.{readReg}
 use Rattle.isa.specs.Short.{decodedOf}
+use Rattle.latch.specs.Decode.{idExOf}
+use Rattle.latch.specs.Execute.{operandB}
+use Rattle.latch.specs.Forwarding.{forwardFrom}
 use Rattle.latch.specs.Memory.{memWbOf}
 use Rattle.latch.specs.Retire.{retiredRegs}
+use Rattle.origin.specs.Origins.{originsOf, valueFrom}
 use Rattle.pipeline.specs.Forwarding.{forwarded}
 use Rattle.pipeline.specs.Refusals.{outOfBounds}
 use Rattle.pipeline.specs.Start.{fresh}
@@ -24,7 +29,8 @@ use Rattle.accuracy.specs.Accuracy.{Agree, AgreeSaid, Demand3, Demand3Fo
 use Rattle.accuracy.specs.Accuracy.{firstSaid, offered, one, said}
 use Rattle.accuracy.specs.Asking.{Asking, replies}
 use Rattle.accuracy.specs.Example.{Example}
-use Rattle.accuracy.specs.Names.{Decoded, Given, Mode, PipelineCpu, Place, Refused, Special, Stages, Start}
+use Rattle.accuracy.specs.Names.{Decoded, ExMem, Given, MemWb, Mode, PipelineCpu, Place, Refused, Special}
+use Rattle.accuracy.specs.Names.{Stages, Start}
 
 -- Everything claimed; proved in proofs/Claims.antt.
 pub record Claims : Type 0 where
@@ -59,4 +65,11 @@ pub record Claims : Type 0 where
       → l .«ex_mem» .«is_store» ≡ false
       → forwarded l rs r
       ≡ readReg (retiredRegs (memWbOf (l .«ex_mem») v) (l .features) (retiredRegs (l .«mem_wb») (l .features) rs)) r
+  -- Origins: each operand of an instruction that decode has put into ID/EX is the value that stands at its origin, also
+  -- one for which no source is named.
+  pub origins : (x : ExMem) (w : MemWb) (f : ℕ) (rs old : List ℕ) (g : Bool) (i : Decoded) (p : ℕ) (m : Mode)
+      → let d = idExOf g i p m old in
+      let o = originsOf x w d in
+      (forwardFrom x w f rs (d .«src_a») ≡ valueFrom (o .a) x w f rs (d .«src_a»))
+      × (operandB x w f rs d ≡ valueFrom (o .b) x w f rs (d .«src_b»))
   pub example : Example

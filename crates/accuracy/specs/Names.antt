@@ -35,6 +35,7 @@ pub use Rattle.latch.specs.declared.IfId.{IfId}
 pub use Rattle.latch.specs.declared.IdEx.{IdEx}
 pub use Rattle.latch.specs.declared.ExMem.{ExMem}
 pub use Rattle.latch.specs.declared.MemWb.{MemWb}
+pub use Rattle.origin.specs.declared.Origins.{Origins}
 pub use Rattle.pipeline.specs.declared.PipelineCpu.{PipelineCpu}
 pub use Rattle.pipeline.specs.declared.Offer.{Offer}
 pub use Rattle.pipeline.specs.declared.Offer.the-variants.{Nothing, Instr}
@@ -45,8 +46,11 @@ pub use Rattle.pipeline.specs.declared.Taken.{Taken}
 pub use Rattle.pipeline.specs.declared.Outcome.the-variants.{Refused}
 pub use Rattle.pipeline.specs.declared.Fetch.{Fetch}
 pub use Rattle.pipeline.specs.declared.Fetch.the-variants.{None as NoFetch, From}
+pub use Rattle.pipeline.specs.declared.Shown.{Shown}
+pub use Rattle.pipeline.specs.declared.Shown.the-variants.{None as NoOrigins, Both}
 pub use Rattle.pipeline.specs.declared.Wanted.{Wanted}
 pub use Rattle.pipeline.specs.declared.Asked.the-variants.{Refused as NotAsked, Wants}
+pub use Rattle.pipeline.specs.declared.Executed.the-variants.{Done}
 pub use Rattle.pipeline.specs.declared.Move.{Move}
 pub use Rattle.pipeline.specs.declared.Move.the-variants.{KeepWaiting as keepWaiting, BeginWait as beginWait}
 pub use Rattle.pipeline.specs.declared.Move.the-variants.{LoadUseStall as loadUseStall, Proceed as proceed}

@@ -1,4 +1,5 @@
 // Cases that stand alone, by the first number of their line.
+use crate::codes::of_origin;
 use crate::decoding::halfword;
 use crate::decoding::normal_operands;
 use crate::decoding::short_operands;
@@ -18,6 +19,7 @@ use crate::read_state::state;
 use crate::write_latch::set_ex_mem;
 use crate::write_latch::set_id_ex;
 use crate::write_state::set_asked;
+use crate::write_state::set_origins;
 use crate::write_state::set_redirect;
 use crate::write_state::set_state;
 use pipeline::DecodedId;
@@ -52,15 +54,16 @@ fn tick(n: &mut [u32; 192]) -> Reply {
 fn ask(n: &mut [u32; 192]) -> Reply {
     let a = asked(n);
     set_asked(n, a);
-    Reply::Numbers(0, 10)
+    Reply::Numbers(0, 12)
 }
 
 fn put_forwarded(n: &mut [u32; 192], f: Forwarded) -> Reply {
     match f {
         Forwarded::Refused(code) => refused(n, code),
-        Forwarded::Word(word) => {
+        Forwarded::Word(word, origin) => {
             n[1] = word;
-            accepted(n, 2)
+            n[2] = of_origin(origin);
+            accepted(n, 3)
         }
     }
 }
@@ -78,7 +81,9 @@ fn put_executed(n: &mut [u32; 192], e: Executed) -> Reply {
             set_redirect(n, 28, redirect);
             let ex_mem = e.ex_mem;
             set_ex_mem(n, 1, ex_mem);
-            accepted(n, 31)
+            let origins = e.origins;
+            set_origins(n, 31, origins);
+            accepted(n, 33)
         }
     }
 }

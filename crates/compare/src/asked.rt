@@ -8,6 +8,7 @@ use pipeline::Asked;
 use pipeline::Fetch;
 use pipeline::Given;
 use pipeline::Offer;
+use pipeline::Shown;
 use pipeline::Wanted;
 use sheet::offer::offer_at;
 use sheet::specials::special_at;
@@ -75,6 +76,7 @@ fn wanted(a: Asked) -> Wanted {
             fetch: Fetch::None,
             request: Request::None,
             special: Inquiry::None,
+            origins: Shown::None,
         },
         Asked::Wants(w) => w,
     }

@@ -6,6 +6,7 @@ use isa::Dest;
 use isa::Exception;
 use isa::Mode;
 use isa::NewMode;
+use origin::Origin;
 
 pub fn to_mode(x: u32) -> Mode {
     if x == 0 {
@@ -61,5 +62,16 @@ pub fn of_exception(e: Exception) -> u32 {
         Exception::PrivilegedInstruction => 1,
         Exception::IllegalInstruction => 2,
         Exception::Syscall(number) => std::num::wrapping_add_u32(of_half(number), 3),
+    }
+}
+
+pub fn of_origin(o: Origin) -> u32 {
+    match o {
+        Origin::ZeroRegister => 1,
+        Origin::ExMem => 2,
+        Origin::ExMemCpuid => 3,
+        Origin::MemWb => 4,
+        Origin::MemWbCpuid => 5,
+        Origin::RegisterFile => 6,
     }
 }

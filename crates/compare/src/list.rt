@@ -21,7 +21,7 @@ fn tick(held: &mut [u32; 192], n: &mut [u32; 192]) -> Reply {
     let g = given(n, 1);
     set_asked(n, asked(held));
     n[0] = machine::tick(held, g);
-    Reply::Numbers(0, 10)
+    Reply::Numbers(0, 12)
 }
 
 fn show(held: &[u32; 192], n: &mut [u32; 192]) -> Reply {

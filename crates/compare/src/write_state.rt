@@ -1,5 +1,6 @@
 // The state and what asking names, written to a line behind its first number.
 use crate::codes::of_mode;
+use crate::codes::of_origin;
 use crate::number::of_byte;
 use crate::place::set;
 use crate::place::set_counter;
@@ -12,11 +13,13 @@ use crate::write_latch::set_mem_wb;
 use isa::Inquiry;
 use isa::Redirect;
 use isa::Request;
+use origin::Origins;
 use pipeline::Asked;
 use pipeline::Counters;
 use pipeline::Fetch;
 use pipeline::PipelineCpu;
 use pipeline::Place;
+use pipeline::Shown;
 use pipeline::Stages;
 
 pub fn set_registers(n: &mut [u32; 192], at: usize, reg: [u32; 32]) {
@@ -107,6 +110,23 @@ fn set_special(n: &mut [u32; 192], q: Inquiry) {
     }
 }
 
+pub fn set_origins(n: &mut [u32; 192], at: usize, o: Origins) {
+    let a = o.a;
+    let b = o.b;
+    set(n, at, 0, of_origin(a));
+    set(n, at, 1, of_origin(b));
+}
+
+fn set_shown(n: &mut [u32; 192], o: Shown) {
+    match o {
+        Shown::None => {
+            n[10] = 0;
+            n[11] = 0;
+        }
+        Shown::Both(both) => set_origins(n, 10, both),
+    }
+}
+
 // The code, and what is wanted, which is nothing where asking is refused.
 pub fn set_asked(n: &mut [u32; 192], a: Asked) {
     match a {
@@ -115,15 +135,18 @@ pub fn set_asked(n: &mut [u32; 192], a: Asked) {
             set_fetch(n, Fetch::None);
             set_request(n, Request::None);
             set_special(n, Inquiry::None);
+            set_shown(n, Shown::None);
         }
         Asked::Wants(w) => {
             let fetch = w.fetch;
             let request = w.request;
             let special = w.special;
+            let origins = w.origins;
             n[0] = 0;
             set_fetch(n, fetch);
             set_request(n, request);
             set_special(n, special);
+            set_shown(n, origins);
         }
     }
 }

@@ -1,8 +1,6 @@
 // Forwarding out of one latch, over the value of an older place.
-ghost use mathlib.Core.Bool.{_&&_, not};
 ghost use mathlib.Core.Path.{_≡_};
-ghost use Rattle.isa.specs.Registers.{isDest};
-ghost use Rattle.latch.specs.Forwarding.{cpuidWord, forwardFrom, fromExMem, fromMemWb};
+ghost use Rattle.latch.specs.Forwarding.{cpuidWord, exMemHolds, forwardFrom, fromExMem, fromMemWb, memWbHolds};
 use crate::ExMem;
 use crate::MemWb;
 use isa::registers::PROCESSOR_NAME;
@@ -24,9 +22,9 @@ fn cpuid_word(on: bool, features: u32, r: u8, v: u32) -> u32
 }
 
 impl MemWb {
-    // Whether it writes register `r`.
-    fn writes(self, r: u8) -> bool
-        ensures { λ a. ⌜ a ≡ self .valid && (self .writeback && isDest (self .dest) r) ⌝ }
+    // Whether it holds register `r`: it is valid and writes it.
+    pub fn holds(self, r: u8) -> bool
+        ensures { λ a. ⌜ a ≡ memWbHolds self r ⌝ }
     {
         let dest = self.dest;
         self.valid & (self.writeback & dest.is(r))
@@ -36,7 +34,7 @@ impl MemWb {
     pub fn forward(self, features: u32, r: u8, v: u32) -> u32
         ensures { λ a. ⌜ a ≡ fromMemWb self features r v ⌝ }
     {
-        if self.writes(r) {
+        if self.holds(r) {
             return self.value;
         }
         cpuid_word(self.valid & self.cpuid, features, r, v)
@@ -44,9 +42,9 @@ impl MemWb {
 }
 
 impl ExMem {
-    // Whether it holds the result for register `r`: never of a load.
-    fn writes(self, r: u8) -> bool
-        ensures { λ a. ⌜ a ≡ self .valid && (self .writeback && (not (self .«is_load») && isDest (self .dest) r)) ⌝ }
+    // Whether it holds register `r`: the same, but never the result of a load.
+    pub fn holds(self, r: u8) -> bool
+        ensures { λ a. ⌜ a ≡ exMemHolds self r ⌝ }
     {
         let dest = self.dest;
         self.valid & (self.writeback & (!self.is_load & dest.is(r)))
@@ -56,21 +54,21 @@ impl ExMem {
     pub fn forward(self, features: u32, r: u8, v: u32) -> u32
         ensures { λ a. ⌜ a ≡ fromExMem self features r v ⌝ }
     {
-        if self.writes(r) {
+        if self.holds(r) {
             return self.alu_result;
         }
         cpuid_word(self.valid & self.cpuid, features, r, v)
     }
 }
 
-// The value of a register as EX sees it. What is older is read only where EX/MEM does not write it.
+// The value of a register as EX sees it. What is older is read only where EX/MEM does not hold it.
 pub fn operand(x: ExMem, w: MemWb, features: u32, reg: &[u32; 32], r: u8) -> u32
     ensures { λ a. ⌜ a ≡ forwardFrom x w features (now (reg .entry)) r ⌝ }
 {
     if r == 0 {
         return 0;
     }
-    if x.writes(r) {
+    if x.holds(r) {
         return x.alu_result;
     }
     let old = w.forward(features, r, read_reg(reg, r));

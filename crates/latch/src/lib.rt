@@ -17,6 +17,8 @@
 //   operand A forwarded only where a source is named.
 // - MemWb::forward: CPUID's words before the latch's own value; the value of an invalid latch.
 // - ExMem::forward: the result of a load; the result of an invalid latch.
+// - MemWb::holds: a register that the latch names but does not write back; R1 where it holds CPUID.
+// - ExMem::holds: the destination of a load; the destination of an invalid latch.
 // - operand: MEM/WB before EX/MEM (mem_wb_before_ex_mem); what a latch holds for R0.
 // - IfId::out_of_bounds: an invalid latch let through; an unknown halfword stopped.
 // - IdEx::out_of_bounds: an invalid latch let through; 3 sources let through.

@@ -7,14 +7,14 @@ use Rattle.isa.proofs.Bools.{or-l, or-r}
 use Rattle.isa.specs.Refusals.{isOf}
 use Rattle.latch.specs.Memory.{requestIn}
 use Rattle.pipeline.specs.Advance.{awake, next, resting}
-use Rattle.pipeline.specs.Ask.{ask, askedBy, asks, fetchAt, fetchOf, loadsIn, wantFetch, wantLoad, wantSpecial}
-use Rattle.pipeline.specs.Ask.{wanted}
+use Rattle.pipeline.specs.Ask.{ask, askedBy, asks, fetchAt, fetchOf, loadsIn, wantFetch, wantLoad, wantOrigins}
+use Rattle.pipeline.specs.Ask.{wantSpecial, wanted}
 use Rattle.pipeline.specs.Counting.{countIdle, counterFull, unlessFull}
 use Rattle.pipeline.specs.Fetch.{fetches}
 use Rattle.pipeline.specs.Inner.{Tells, TellsAll, refusedWith, tickedOn}
 use Rattle.pipeline.specs.Move.{moveOf}
-use Rattle.pipeline.specs.Names.{Accepted, Counters, Given, Inquiry, Instr, Mode, NoFetch, NoInquiry, NoRequest}
-use Rattle.pipeline.specs.Names.{Normal, NotAsked, Nothing, Offer, PipelineCpu, RawInstr, Wants}
+use Rattle.pipeline.specs.Names.{Accepted, Counters, Given, Inquiry, Instr, Mode, NoFetch, NoInquiry, NoOrigins}
+use Rattle.pipeline.specs.Names.{NoRequest, Normal, NotAsked, Nothing, Offer, PipelineCpu, RawInstr, Wants}
 use Rattle.pipeline.specs.Parts.{retirePart}
 use Rattle.pipeline.specs.Refusals.{Tests, andThen, codeOf, faulty, outOfBounds, pass, stateTests, test}
 use Rattle.pipeline.specs.Retire.{retire, retireStages}
@@ -152,8 +152,8 @@ module _ (s : PipelineCpu) (e : awake (s .stages) ≡ false) where
   rest-next t c ec r = rw (ec, r, e)
 
   -- and nothing is wanted
-  pub rest-wants : record { fetch = NoFetch; request = NoRequest; special = NoInquiry } ≡ wanted s
-  unfolding wanted asks fetchOf requestIn
+  pub rest-wants : record { fetch = NoFetch; request = NoRequest; special = NoInquiry; origins = NoOrigins } ≡ wanted s
+  unfolding wanted asks wantOrigins fetchOf requestIn
   rest-wants = rw (rest-fetch, rest-special, e)
 
 -- five counters, each told

@@ -14,14 +14,16 @@ use Rattle.latch.specs.Retire.{halts}
 use Rattle.pipeline.proofs.Refusing.{fits-false, tickCode}
 use Rattle.pipeline.specs.Advance.{advance, advanceBy, advanceStages, awake, idExAfter, ifIdAfter, next}
 use Rattle.pipeline.specs.Advance.{placeAfter}
-use Rattle.pipeline.specs.Ask.{asks, fetchAt, fetchOf, loadsIn, wantFetch, wantLoad, wantSpecial, wanted}
+use Rattle.pipeline.specs.Ask.{asks, fetchAt, fetchOf, loadsIn, wantFetch, wantLoad, wantOrigins, wantSpecial}
+use Rattle.pipeline.specs.Ask.{wanted}
 use Rattle.pipeline.specs.Counting.{countRetired, counted, stalls, unlessFull}
 use Rattle.pipeline.specs.Execute.{effectFor, executed, executedBy, inquiryBy, inquiryOf}
 use Rattle.pipeline.specs.Fetch.{fetches, nextIdEx, predicted}
 use Rattle.pipeline.specs.Inner.{Retired}
-use Rattle.pipeline.specs.Move.{freeMove, inquiryIn, isWait, move, moveOf, nextExMem, waitsOn}
-use Rattle.pipeline.specs.Names.{Counters, Effect, Fetch, Given, IdEx, Inquiry, Move, NoFetch, NoInquiry, Normal}
-use Rattle.pipeline.specs.Names.{PipelineCpu, Plan, Request, Special, Stages, Taken, keepWaiting}
+use Rattle.pipeline.specs.Move.{freeMove, inquiryIn, isWait, move, moveOf, nextExMem, originsIn, waitsOn}
+use Rattle.pipeline.specs.Names.{Counters, Effect, Fetch, Given, IdEx, Inquiry, Move, NoFetch, NoInquiry}
+use Rattle.pipeline.specs.Names.{NoOrigins, Normal, PipelineCpu, Plan, Request, Shown, Special, Stages, Taken}
+use Rattle.pipeline.specs.Names.{keepWaiting}
 use Rattle.pipeline.specs.Plans.{advancePlan, frontOf, idExFrom, openExMem, planFetches, planOf, saidExMem}
 use Rattle.pipeline.specs.Plans.{waited}
 use Rattle.pipeline.specs.Refusals.{codeOf}
@@ -78,17 +80,21 @@ module _ (s : PipelineCpu) (l : Stages) (rs : List ℕ) (b : Retired s l rs) whe
   unfolding wantSpecial retire
   asks-by m e = rw (sym (b .stages), sym (b .reg), e, b .awake)
 
+  shows-by : (m : Move) → move l rs ≡ m → wantOrigins s ≡ originsIn m l
+  unfolding wantOrigins retire
+  shows-by m e = rw (sym (b .stages), sym (b .reg), e, b .awake)
+
   next-by : (m : Move) (a : Stages) (c : Counters) (x y : Taken) → move l rs ≡ m → a ≡ advanceStages m l rs x
       → c ≡ unlessFull (s .counts) (counted m (countRetired ((l .«mem_wb») .valid) (s .counts))) → x ≡ y
       → record { reg = rs; stages = a; counts = c } ≡ next s y
   unfolding next advance retire retireStages unlessFull
   next-by m a c x y em ea ec ex = rw (moves-by m em, ea, ec, ex, b .room, b .stages, b .reg, b .awake)
 
-  wants-of : (f : Bool) (g : Fetch) (x : Request) (q : Inquiry) → f ≡ wantFetch s → g ≡ fetchOf f (fetchAt s)
-      → x ≡ requestIn (requests (l .«ex_mem»)) → q ≡ wantSpecial s
-      → record { fetch = g; request = x; special = q } ≡ wanted s
+  wants-of : (f : Bool) (g : Fetch) (x : Request) (q : Inquiry) (o : Shown) → f ≡ wantFetch s
+      → g ≡ fetchOf f (fetchAt s) → x ≡ requestIn (requests (l .«ex_mem»)) → q ≡ wantSpecial s → o ≡ wantOrigins s
+      → record { fetch = g; request = x; special = q; origins = o } ≡ wanted s
   unfolding wanted asks
-  wants-of f g x q ef eg ex eq = rw (eg, ex, ef, eq, b .stages, b .awake)
+  wants-of f g x q o ef eg ex eq eo = rw (eg, ex, ef, eq, eo, b .stages, b .awake)
 
   -- a wait goes on
   module _ (w : waitsOn l ≡ true) where
@@ -104,10 +110,15 @@ module _ (s : PipelineCpu) (l : Stages) (rs : List ℕ) (b : Retired s l rs) whe
     unfolding inquiryIn isWait
     no-special = asks-by keepWaiting keeps
 
+    no-origins : wantOrigins s ≡ NoOrigins
+    unfolding originsIn isWait
+    no-origins = shows-by keepWaiting keeps
+
     pub wait-wants : (x : Request) → x ≡ requestIn (requests (l .«ex_mem»))
-        → record { fetch = NoFetch; request = x; special = NoInquiry } ≡ wanted s
+        → record { fetch = NoFetch; request = x; special = NoInquiry; origins = NoOrigins } ≡ wanted s
     unfolding fetchOf
-    wait-wants x ex = wants-of false NoFetch x NoInquiry (sym no-fetch) refl ex (sym no-special)
+    wait-wants x ex =
+        wants-of false NoFetch x NoInquiry NoOrigins (sym no-fetch) refl ex (sym no-special) (sym no-origins)
 
     pub wait-code : (t : Given) (k : ℕ) (d : Bool) → d ≡ loadsIn l
         → k ≡ codeOf (givenTests false Normal d NoInquiry t) → k ≡ tickCode s t
@@ -138,11 +149,12 @@ module _ (s : PipelineCpu) (l : Stages) (rs : List ℕ) (b : Retired s l rs) whe
     unfolding planOf
     want-special = rw (asks-by (p .step) frees, ep)
 
-    pub plan-wants : (f : Bool) (g : Fetch) (x : Request) → f ≡ planFetches l p → g ≡ fetchOf f (p .place)
-        → x ≡ requestIn (requests (l .«ex_mem»))
-        → record { fetch = g; request = x; special = p .inquiry } ≡ wanted s
-    plan-wants f g x ef eg ex =
-        wants-of f g x (p .inquiry) (ef ∙ want-fetch) (rw fetch-at at eg) ex want-special
+    pub plan-wants : (f : Bool) (g : Fetch) (x : Request) (o : Shown) → f ≡ planFetches l p → g ≡ fetchOf f (p .place)
+        → x ≡ requestIn (requests (l .«ex_mem»)) → o ≡ originsIn (p .step) l
+        → record { fetch = g; request = x; special = p .inquiry; origins = o } ≡ wanted s
+    plan-wants f g x o ef eg ex eo =
+        wants-of f g x (p .inquiry) o (ef ∙ want-fetch) (rw fetch-at at eg) ex want-special
+        (eo ∙ sym (shows-by (p .step) frees))
 
     pub plan-code : (t : Given) (k : ℕ) (f d : Bool) → f ≡ planFetches l p → d ≡ loadsIn l
         → k ≡ codeOf (givenTests f ((p .place) .mode) d (p .inquiry) t) → k ≡ tickCode s t

@@ -6,9 +6,9 @@ use mathlib.Core.List.{List, []}
 use Rattle.latch.specs.Memory.{loads, requestIn, requests}
 use Rattle.pipeline.specs.Advance.{awake}
 use Rattle.pipeline.specs.Fetch.{fetchPlace, fetches}
-use Rattle.pipeline.specs.Move.{inquiryIn, moveOf}
-use Rattle.pipeline.specs.Names.{Asked, Fetch, From, Inquiry, NoFetch, NoInquiry, NotAsked, PipelineCpu, Place}
-use Rattle.pipeline.specs.Names.{Request, Stages, Wanted, Wants}
+use Rattle.pipeline.specs.Move.{inquiryIn, moveOf, originsIn}
+use Rattle.pipeline.specs.Names.{Asked, Fetch, From, Inquiry, NoFetch, NoInquiry, NoOrigins, NotAsked}
+use Rattle.pipeline.specs.Names.{PipelineCpu, Place, Request, Shown, Stages, Wanted, Wants}
 use Rattle.pipeline.specs.Refusals.{codeOf, faulty, stateTests}
 use Rattle.pipeline.specs.Retire.{retire, retireStages}
 
@@ -34,6 +34,10 @@ unfoldable pub wantSpecial : PipelineCpu → Inquiry
 wantSpecial s =
     cond (awake (s .stages)) (inquiryIn (moveOf (retire s)) ((retire s) .stages) ((retire s) .reg)) NoInquiry
 
+-- the origins that the tick's execution will pass on, if an instruction executes
+unfoldable pub wantOrigins : PipelineCpu → Shown
+wantOrigins s = cond (awake (s .stages)) (originsIn (moveOf (retire s)) ((retire s) .stages)) NoOrigins
+
 unfoldable pub fetchOf : Bool → Place → Fetch
 fetchOf false p = NoFetch
 fetchOf true p = From (p .pc) (p .mode)
@@ -44,6 +48,7 @@ wanted s = record {
   fetch = fetchOf (wantFetch s) (fetchAt s);
   request = requestIn (asks (s .stages));
   special = wantSpecial s;
+  origins = wantOrigins s;
 }
 
 -- a refusal's number, 0 for none, or what is wanted

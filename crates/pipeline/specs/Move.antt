@@ -2,7 +2,7 @@
 -- end behind a used load, go on, or redirect).
 use Prim.Native.Nat.{ℕ}
 use lib.Dec.{ltb}
-use mathlib.Core.Bool.{Bool, _&&_, cond, false, not, true}
+use mathlib.Core.Bool.{Bool, _&&_, _||_, cond, false, not, true}
 use mathlib.Core.List.{List}
 use Rattle.isa.specs.Operands.{operandsOf}
 use Rattle.isa.specs.Short.{decodedOf}
@@ -10,8 +10,10 @@ use Rattle.isa.specs.Waits.{waits}
 use Rattle.latch.specs.Decode.{loadUse}
 use Rattle.latch.specs.Latches.{emptyExMem}
 use Rattle.pipeline.specs.Execute.{executed, inquiryOf, redirectOf}
-use Rattle.pipeline.specs.Names.{ExMem, IdEx, Inquiry, Move, Next, NoInquiry, PipelineCpu, Redirect, Special}
-use Rattle.pipeline.specs.Names.{Stages, To, beginWait, keepWaiting, loadUseStall, proceed, redirect}
+use Rattle.pipeline.specs.Forwarding.{originsFor}
+use Rattle.pipeline.specs.Names.{Both, ExMem, IdEx, Inquiry, Move, Next, NoInquiry, NoOrigins, PipelineCpu}
+use Rattle.pipeline.specs.Names.{Redirect, Shown, Special, Stages, To, beginWait, keepWaiting, loadUseStall}
+use Rattle.pipeline.specs.Names.{proceed, redirect}
 
 -- a wait in EX goes on: more than one tick of it is left
 unfoldable pub waitsOn : Stages → Bool
@@ -65,3 +67,7 @@ nextExMem m l rs c = cond (isWait m) emptyExMem (executed l rs c)
 -- the special register that a move asks for: in a wait nothing executes
 unfoldable pub inquiryIn : Move → Stages → List ℕ → Inquiry
 inquiryIn m l rs = cond (isWait m) NoInquiry (inquiryOf l rs)
+
+-- the origins that the execution of a move passes on, none where nothing executes
+unfoldable pub originsIn : Move → Stages → Shown
+originsIn m l = cond (isWait m || not ((l .«id_ex») .valid)) NoOrigins (Both (originsFor l (l .«id_ex»)))

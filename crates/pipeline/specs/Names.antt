@@ -18,6 +18,8 @@ pub use Rattle.isa.specs.declared.Effect.{Effect}
 pub use Rattle.latch.specs.declared.IfId.{IfId}
 pub use Rattle.latch.specs.declared.IdEx.{IdEx}
 pub use Rattle.latch.specs.declared.ExMem.{ExMem}
+pub use Rattle.origin.specs.declared.Origin.{Origin}
+pub use Rattle.origin.specs.declared.Origins.{Origins}
 pub use Rattle.pipeline.specs.declared.PipelineCpu.{PipelineCpu}
 pub use Rattle.pipeline.specs.declared.Offer.{Offer}
 pub use Rattle.pipeline.specs.declared.Offer.the-variants.{Nothing, Instr}
@@ -30,6 +32,8 @@ pub use Rattle.pipeline.specs.declared.Outcome.the-variants.{Accepted, R
 pub use Rattle.pipeline.specs.declared.Ticked.{Ticked}
 pub use Rattle.pipeline.specs.declared.Fetch.{Fetch}
 pub use Rattle.pipeline.specs.declared.Fetch.the-variants.{None as NoFetch, From}
+pub use Rattle.pipeline.specs.declared.Shown.{Shown}
+pub use Rattle.pipeline.specs.declared.Shown.the-variants.{None as NoOrigins, Both}
 pub use Rattle.pipeline.specs.declared.Wanted.{Wanted}
 pub use Rattle.pipeline.specs.declared.Asked.{Asked}
 pub use Rattle.pipeline.specs.declared.Asked.the-variants.{Refused as NotAsked, Wants}

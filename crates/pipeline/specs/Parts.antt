@@ -10,7 +10,7 @@ use Rattle.latch.specs.Bounds.{badIdEx, badIfId}
 use Rattle.latch.specs.Decode.{decodeId, loadUse}
 use Rattle.latch.specs.Execute.{exMemOf}
 use Rattle.pipeline.specs.Execute.{effectFor}
-use Rattle.pipeline.specs.Forwarding.{forwarded}
+use Rattle.pipeline.specs.Forwarding.{forwarded, originOf, originsFor}
 use Rattle.pipeline.specs.Names.{Decoded, DecodedId, DecodedTo, Done, Executed, Forwarded, ForwardedWord, Hazard}
 use Rattle.pipeline.specs.Names.{IdEx, IfId, Latency, MulDiv, NoHazardTest, NoLatency, NoSources, NotDecoded}
 use Rattle.pipeline.specs.Names.{NotExecuted, NotForwarded, NotMulDiv, PipelineCpu, Sources, Special, Ticked, Two}
@@ -19,9 +19,11 @@ use Rattle.pipeline.specs.Refusals.{faulty, outOfBounds, stateTests}
 use Rattle.pipeline.specs.Retire.{retire}
 use Rattle.pipeline.specs.Tick.{fitsSpecial, handedBack, verdict}
 
+-- the value and its origin
 unfoldable pub forwardedPart : PipelineCpu → ℕ → Forwarded
 forwardedPart s r =
-    cond (outOfBounds (s .stages) || ltb 31 r) (NotForwarded 11) (ForwardedWord (forwarded (s .stages) (s .reg) r))
+    cond (outOfBounds (s .stages) || ltb 31 r) (NotForwarded 11)
+    (ForwardedWord (forwarded (s .stages) (s .reg) r) (originOf (s .stages) r))
 
 -- execute_ex reads neither whether the latch is valid nor what was predicted; c: what is said of a special register
 unfoldable pub executePart : PipelineCpu → IdEx → Special → Executed
@@ -31,6 +33,7 @@ executePart s l c =
     (Done (record {
       «ex_mem» = exMemOf l (fill c (effectFor (s .stages) (s .reg) l));
       redirect = (effectFor (s .stages) (s .reg) l) .redirect;
+      origins = originsFor (s .stages) l;
     })))
 
 unfoldable pub decodePart : PipelineCpu → IfId → DecodedId

@@ -4,13 +4,18 @@ ghost use mathlib.Core.Path.{_≡_};
 ghost use Rattle.pipeline.specs.Advance.{awake};
 ghost use Rattle.pipeline.specs.Ask.{ask, fetchOf, wanted};
 ghost use Rattle.pipeline.specs.Counting.{counterFull};
+ghost use Rattle.pipeline.specs.Move.{isWait, originsIn};
 use crate::Asked;
 use crate::Fetch;
+use crate::Move;
 use crate::PipelineCpu;
 use crate::Place;
+use crate::Shown;
+use crate::Stages;
 use crate::Wanted;
 use isa::Inquiry;
 use isa::Request;
+use origin::choice::origins_of;
 
 fn fetch_of(fetches: bool, place: Place) -> Fetch
     ensures { λ r. ⌜ r ≡ fetchOf fetches place ⌝ }
@@ -20,6 +25,29 @@ fn fetch_of(fetches: bool, place: Place) -> Fetch
         return Fetch::From(place.pc, mode);
     }
     Fetch::None
+}
+
+fn is_wait(step: Move) -> bool
+    ensures { λ r. ⌜ r ≡ isWait step ⌝ }
+{
+    match step {
+        Move::KeepWaiting => true,
+        Move::BeginWait => true,
+        Move::LoadUseStall(_) => false,
+        Move::Proceed => false,
+        Move::Redirect(_, _) => false,
+    }
+}
+
+// The origins that the execution of a move passes on.
+fn origins_in(step: Move, l: Stages) -> Shown
+    ensures { λ r. ⌜ r ≡ originsIn step l ⌝ }
+{
+    let d = l.id_ex;
+    if is_wait(step) | !d.valid {
+        return Shown::None;
+    }
+    Shown::Both(origins_of(l.ex_mem, l.mem_wb, d))
 }
 
 impl PipelineCpu {
@@ -38,19 +66,22 @@ impl PipelineCpu {
                 fetch: Fetch::None,
                 request: x.request(),
                 special: Inquiry::None,
+                origins: Shown::None,
             };
         }
         let plan = s.plan(&reg);
         let place = plan.place;
         let special = plan.inquiry;
+        let step = plan.step;
         Wanted {
             fetch: fetch_of(s.fetches(plan), place),
             request: x.request(),
             special,
+            origins: origins_in(step, s),
         }
     }
 
-    // The fetch, the request and the special register of the next tick, or refusal 11, 12 or 13.
+    // The fetch, the request, the special register and the origins of the next tick, or refusal 11, 12 or 13.
     pub fn ask(self) -> Asked
         ensures { λ r. ⌜ r ≡ ask self ⌝ }
     {
@@ -66,6 +97,7 @@ impl PipelineCpu {
             fetch: Fetch::None,
             request: Request::None,
             special: Inquiry::None,
+            origins: Shown::None,
         })
     }
 }

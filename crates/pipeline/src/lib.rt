@@ -4,15 +4,15 @@
 // tries one, in the code or in its definition:
 // - PipelineCpu::start: R0 as it was handed in; a retire place of 0.
 // - PipelineCpu::ask: no fetch in a redirecting tick; 12 for a machine that does not run; a special register asked for
-//   while a wait begins (asked_while_a_wait_begins).
+//   while a wait begins (asked_while_a_wait_begins); origins shown while a wait begins (origins_while_a_wait_begins).
 // - PipelineCpu::tick: EX/MEM kept at a HALT (halt_leaves_ex_mem); 4 before 3 (refusal_4_before_3); 10 before 4
 //   (refusal_10_before_4); a wait one tick longer.
 // - id_sources: the base of a store left out; 11 for an unknown halfword.
 // - is_mul_div: the wait, 2 or 15, for the latency; a latency of 0 for any other instruction.
 // - load_use_hazard: a source of 32 let through; a load to R0 waited for.
-// - PipelineCpu::forwarded: 0 for register 32; 12 where MEM/WB holds an exception.
+// - PipelineCpu::forwarded: 0 for register 32; 12 where MEM/WB holds an exception; the register file as origin of R0.
 // - PipelineCpu::execute_ex: an empty EX/MEM for an invalid latch; no redirect where the branch was rightly predicted;
-//   10 before 11.
+//   10 before 11; no origins for an invalid latch.
 // - PipelineCpu::decode_id: an invalid latch made of an invalid one; a branch with negative offset predicted taken.
 // - PipelineCpu::retire: MEM/WB emptied; 12 for a machine that does not run.
 // - Stages::out_of_bounds: an invalid latch not tested; a wait of 15 out of bounds.
@@ -50,6 +50,8 @@ use latch::ExMem;
 use latch::IdEx;
 use latch::IfId;
 use latch::MemWb;
+use origin::Origin;
+use origin::Origins;
 
 // The state: registers, stages, counters.
 pub struct PipelineCpu {
@@ -126,11 +128,18 @@ pub enum Fetch {
     From(u32, Mode),
 }
 
-// What a tick will want.
+// The origins that a tick's execution will pass on, or none.
+pub enum Shown {
+    None,
+    Both(Origins),
+}
+
+// What a tick will want, and the origins that its execution will pass on.
 pub struct Wanted {
     pub fetch: Fetch,
     pub request: Request,
     pub special: Inquiry,
+    pub origins: Shown,
 }
 
 // The answer of asking.
@@ -172,16 +181,17 @@ pub struct Plan {
     pub place: Place,
 }
 
-// The answer of `forwarded` by itself.
+// The answer of `forwarded` by itself: a value and its origin.
 pub enum Forwarded {
     Refused(u32),
-    Word(u32),
+    Word(u32, Origin),
 }
 
-// The next EX/MEM of a latch, and the way that its instruction goes.
+// The next EX/MEM of a latch, the way that its instruction goes, and the origins of its operands.
 pub struct Execution {
     pub ex_mem: ExMem,
     pub redirect: Redirect,
+    pub origins: Origins,
 }
 
 // The answer of `execute_ex` by itself.

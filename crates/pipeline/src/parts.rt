@@ -19,6 +19,8 @@ use latch::IdEx;
 use latch::IfId;
 use latch::execute::effect_from;
 use latch::forwarding::operand;
+use origin::choice::origin_of;
+use origin::choice::origins_of;
 
 // The two sources of what IF/ID holds.
 pub fn id_sources(f: IfId) -> Sources
@@ -64,7 +66,7 @@ pub fn load_use_hazard(d: IdEx, a: u8, b: u8) -> Hazard
 }
 
 impl PipelineCpu {
-    // The value of a register as EX sees it.
+    // The value of a register as EX sees it, and its origin.
     pub fn forwarded(self, r: u8) -> Forwarded
         ensures { λ v. ⌜ v ≡ forwardedPart self r ⌝ }
     {
@@ -73,10 +75,11 @@ impl PipelineCpu {
         if l.out_of_bounds() | (31 < r) {
             return Forwarded::Refused(11);
         }
-        Forwarded::Word(operand(l.ex_mem, l.mem_wb, l.features, &reg, r))
+        let word = operand(l.ex_mem, l.mem_wb, l.features, &reg, r);
+        Forwarded::Word(word, origin_of(l.ex_mem, l.mem_wb, r))
     }
 
-    // The next EX/MEM of a latch and the way that its instruction goes.
+    // The next EX/MEM of a latch, the way that its instruction goes, and the origins of its operands.
     pub fn execute_ex(self, d: IdEx, special: Special) -> Executed
         ensures { λ r. ⌜ r ≡ executePart self d special ⌝ }
     {
@@ -94,6 +97,7 @@ impl PipelineCpu {
         Executed::Done(Execution {
             ex_mem: d.ex_mem(e.filled(special)),
             redirect,
+            origins: origins_of(l.ex_mem, l.mem_wb, d),
         })
     }
 

@@ -1,10 +1,11 @@
-//! The expected answer to each case: the original's, behind the refusals of RULES 19; of a play, the reading's.
+//! The expected answer to each case: the original's, behind the refusals of RULES 19; plays and origins are a reading's.
 
 use crate::buffers::Buffers;
 use crate::case::Case;
 use crate::cpu_pipeline::harness::arithmetic::{self, Arithmetic};
 use crate::cpu_pipeline::harness::original::Original;
 use crate::cpu_pipeline::harness::{operands, short_numbers_of};
+use crate::origins;
 use crate::panel;
 use crate::player;
 use crate::refusals::{self, NONE, OUT_OF_BOUNDS, UNWANTED_SPECIAL};
@@ -122,16 +123,20 @@ impl Answers {
         panel::preview(&mut self.original, state, &task).put(out);
     }
 
-    /// Panics if a case is a play that differs from the original's run of the same sheet, or a tick whose question for
-    /// a special register is not the original's.
+    /// Panics if a case is a play that differs from the original's run of the same sheet, a tick whose question for a
+    /// special register is not the original's, or one with origins that the original does not show.
     pub fn check(&mut self, case: &Case) {
         let original = &mut self.original;
         match case {
             Case::Player(begin, given) => {
                 player::check(original, begin, &self.buffers.task(given));
             }
-            Case::Tick(state, _) | Case::Ask(state) => special_registers::check(original, state),
-            Case::ListTick(_) => special_registers::check(original, &self.held),
+            Case::Tick(state, _) | Case::Ask(state) => check_asking(original, state),
+            Case::ListTick(_) => check_asking(original, &self.held),
+            Case::Forwarded(state, register) => {
+                origins::check_forwarding(original, state, *register);
+            }
+            Case::Execute(state, latch, _) => origins::check_execution(original, state, latch),
             _ => {}
         }
     }
@@ -162,15 +167,16 @@ impl Answers {
         }
     }
 
-    /// Answers forwarding by itself.
+    /// Answers forwarding by itself, with the origin of the value.
     fn forwarded(&mut self, state: &State, register: u32, out: &mut Vec<u32>) {
         let broken = refusals::state_breaks(state) || refusals::register_breaks(register);
         self.part(broken, out, |original, out| {
             original.forwarded(state, register).put(out);
+            origins::of_register(state, register).put(out);
         });
     }
 
-    /// Answers execute by itself, with the word that it asks for or none.
+    /// Answers execute by itself, with the word that it asks for or none, and the origins of both operands.
     fn execute(&mut self, state: &State, latch: &IdEx, special: Special, out: &mut Vec<u32>) {
         let broken = refusals::state_breaks(state) || refusals::id_ex_breaks(latch);
         let asks = special_registers::wanted_by(state.user, latch).is_some();
@@ -181,6 +187,7 @@ impl Answers {
             let (ex_mem, redirect) = original.execute(state, latch, special);
             ex_mem.put(out);
             redirect.put(out);
+            origins::of_latch(state, latch).put(out);
         });
     }
 
@@ -223,4 +230,10 @@ impl Answers {
             self.original.retire(state).put(out);
         }
     }
+}
+
+/// Panics if what asking says of a special register or of origins is not what the original's tick shows.
+fn check_asking(original: &mut Original, state: &State) {
+    special_registers::check(original, state);
+    origins::check_asking(original, state);
 }

@@ -12,6 +12,8 @@ mod generator;
 mod line;
 pub mod listing;
 mod maker;
+pub mod origin_rows;
+mod origins;
 mod panel;
 mod player;
 mod refusals;

@@ -6,6 +6,7 @@ use std::process::ExitCode;
 
 const USAGE: &str = "usage:
   oracle listings
+  oracle origin-rows
   oracle tickrun
   oracle compare PROGRAM KIND COUNT SEED
   oracle cases KIND COUNT SEED
@@ -21,6 +22,7 @@ fn main() -> ExitCode {
 fn run(words: &[&str]) -> Result<bool> {
     match *words {
         ["listings"] => oracle::listing::run(out()),
+        ["origin-rows"] => oracle::origin_rows::run(out()),
         ["tickrun"] => oracle::tickrun::run(stdin().lock(), out()).map(|()| true),
         ["answer"] => oracle::answer::run(stdin().lock(), out()).map(|()| true),
         ["compare", program, of, count, seed] => {

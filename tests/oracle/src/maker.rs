@@ -12,6 +12,7 @@ mod list;
 mod meeting;
 mod offer;
 mod operands;
+mod origin;
 mod panel;
 mod part;
 mod plain;

@@ -2,11 +2,13 @@
 
 mod instruction;
 mod latch;
+mod origin;
 mod special;
 mod state;
 
 pub use instruction::{Decoded, Offer, Raw};
 pub use latch::{ExMem, IdEx, IfId, MemWb};
+pub use origin::{Origin, Origins};
 pub use special::Special;
 pub use state::{Answer, Begin, Given, Input, Redirect, Seen, State};
 

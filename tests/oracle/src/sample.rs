@@ -35,7 +35,7 @@ pub fn mixed(count: u64, seed: u64, mut out: impl Write) -> Result<()> {
 }
 
 /// Writes case lines.
-fn write_cases(cases: &[Case], out: &mut impl Write) -> Result<()> {
+pub fn write_cases(cases: &[Case], out: &mut impl Write) -> Result<()> {
     for case in cases {
         let (mut numbers, mut bytes) = (Vec::new(), Vec::new());
         case.put(&mut numbers);

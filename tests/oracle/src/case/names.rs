@@ -4,7 +4,7 @@ use super::Case;
 use crate::cpu_pipeline::harness::Numbers;
 use crate::player::Played;
 use crate::row::Row;
-use crate::rows::{ExMem, IdEx, Redirect, Seen, State};
+use crate::rows::{ExMem, IdEx, Origins, Redirect, Seen, State};
 use crate::runner::Run;
 
 /// Names of the operands of an instruction, the two that id_sources gives among them.
@@ -26,10 +26,11 @@ pub fn result_names(case: &Case) -> Vec<String> {
             State::names("", &mut names);
         }
         Case::Ask(_) | Case::ListTick(..) => Seen::names("", &mut names),
-        Case::Forwarded(..) => names.push("value".to_string()),
+        Case::Forwarded(..) => names.extend(["value", "origin"].map(String::from)),
         Case::Execute(..) => {
             ExMem::names("ex_mem", &mut names);
             Redirect::names("", &mut names);
+            Origins::names("origins", &mut names);
         }
         Case::Decode(..) => IdEx::names("id_ex", &mut names),
         Case::Sources(_) => names.extend(["src0", "src1"].map(String::from)),

@@ -7,6 +7,7 @@ mod from_core;
 mod instruction_numbers;
 mod into_core;
 pub mod operands;
+mod origin;
 pub mod original;
 mod parts;
 mod register_block;

@@ -10,12 +10,16 @@ use crate::special_registers;
 impl Maker {
     /// Makes a state and a register to forward.
     pub fn forwarded(&mut self) -> Case {
-        let state = self.state();
+        let mut state = self.state();
         let register = match self.random.below(20) {
             0 => self.limit(),
-            1..4 => self.random.pick(&[0, 1, 2]),
-            _ => self.register(),
+            _ => self.traced_register(),
         };
+        let is_broken = refusals::state_breaks(&state) || refusals::register_breaks(register);
+        if !is_broken && self.random.chance(50) {
+            let other = self.traced_register();
+            self.give_origins(&mut state, [register, other]);
+        }
         Case::Forwarded(state, register)
     }
 
@@ -45,6 +49,9 @@ impl Maker {
         }
         if self.random.chance(30) {
             self.give_hard_operands(&mut state, &mut latch);
+        }
+        if !refusals::state_breaks(&state) && self.random.chance(30) {
+            self.trace_operands(&mut state, &mut latch);
         }
         if self.random.chance(6) {
             self.latch_to_a_bound(&mut latch);

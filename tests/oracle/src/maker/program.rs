@@ -14,9 +14,11 @@ const PLAIN: [u32; 17] = [
 ];
 /// Loads and stores of all widths.
 const MEMORY: [u32; 9] = [0x01, 0x01, 0x01, 0x20, 0x21, 0x21, 0x02, 0x22, 0x23];
+/// Position of CPUID in the enum.
+const CPUID: u32 = 0x11;
 /// CPUID and NOP often; HALT, Unknown, IRET, SYSCALL and MTSR end a run.
 const OTHERS: [u32; 11] = [
-    0x11, 0x11, 0x11, 0x00, 0x00, 0x12, 0x12, 0x26, 0x27, 0x28, 0x2a,
+    CPUID, CPUID, CPUID, 0x00, 0x00, 0x12, 0x12, 0x26, 0x27, 0x28, 0x2a,
 ];
 
 /// The instructions of both modes; addresses past the end begin again.
@@ -45,14 +47,23 @@ impl Maker {
         if self.random.chance(60) {
             self.registers[3] = self.registers[0];
         }
-        Program {
+        let identifies = self.random.chance(15);
+        if identifies {
+            self.registers[1..3].copy_from_slice(&[1, 2]);
+        }
+        let mut program = Program {
             normal: (0..normal_count)
                 .map(|_| self.listed_normal(others))
                 .collect(),
             short: (normal_count..length)
                 .map(|_| self.listed_short())
                 .collect(),
+        };
+        if identifies {
+            let place = self.random.below(normal_count) as usize;
+            program.normal[place] = self.normal_of(CPUID);
         }
+        program
     }
 
     /// Makes a Normal instruction for a program, with short ways for branches and jumps.

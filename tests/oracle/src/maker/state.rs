@@ -14,6 +14,11 @@ impl Maker {
         if self.random.chance(55) {
             self.let_meet(&mut state);
         }
+        if self.random.chance(20) {
+            let mut latch = state.id_ex;
+            self.trace_operands(&mut state, &mut latch);
+            state.id_ex = latch;
+        }
         if self.random.chance(15) {
             self.go_to_a_bound(&mut state);
         }

@@ -1,6 +1,6 @@
 //! The whole state, what start is given, and what a tick is given and asks for.
 
-use super::{ExMem, IdEx, IfId, MemWb, Offer, Special};
+use super::{ExMem, IdEx, IfId, MemWb, Offer, Origins, Special};
 use crate::row::row;
 
 row! {
@@ -79,7 +79,8 @@ row! {
 }
 
 row! {
-    /// What a tick asks for: a fetch or none, then a load, a store or none, then a special register or none.
+    /// What a tick asks for: a fetch or none, then a load, a store or none, then a special register or none. Behind it
+    /// the origins that asking shows.
     #[derive(Default)]
     Seen {
         fetch: bool,
@@ -91,6 +92,7 @@ row! {
         word: u32,
         special: bool,
         register: u32,
+        origins: Origins,
     }
 }
 

@@ -8,6 +8,6 @@ pub forward-spec : {M : Type 1} → statement M
 unfolding fromMemWb
 forward-spec = tie.close (tie.spec
     (λ c κs. search needs)
-    (λ c. rw (← (c .before .writes .ensures), c .if1 .taken))
+    (λ c. rw (← (c .before .holds .ensures), c .if1 .taken))
     (λ c κs. search needs)
-    (λ c. rw (← (c .before .before .before .writes .ensures), c .before .before .if1 .left) (c .cpuid-word .ensures)))
+    (λ c. rw (← (c .before .before .before .holds .ensures), c .before .before .if1 .left) (c .cpuid-word .ensures)))

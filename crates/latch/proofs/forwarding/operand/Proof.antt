@@ -10,7 +10,7 @@ unfolding forwardFrom fromExMem
 operand-spec = tie.close (tie.spec
     (λ c. rw (eq-eqb _ 0 (c .if1 .taken)))
     (λ c κs. search needs)
-    (λ c. rw (ne-eqb _ 0 (c .before .before .if1 .left), ← (c .before .writes .ensures), c .if2 .taken))
+    (λ c. rw (ne-eqb _ 0 (c .before .before .if1 .left), ← (c .before .holds .ensures), c .if2 .taken))
     (λ c κs. search needs) (λ c κs. search needs) (λ c κs. search needs)
     (λ c. rw (
       ne-eqb _ 0 (c .before .before .before .before .before .if1 .left),

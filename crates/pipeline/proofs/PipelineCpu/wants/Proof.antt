@@ -16,15 +16,17 @@ wants-spec = tie.close (tie.spec
       reg = k .retire .ensures .1;
     })
     (sym (c .before .before .waits-on .ensures) ∙ c .before .if1 .taken) _ (c .request .ensures))
-    (λ c κs. search needs) (λ c κs. search needs) (λ c κs. search needs) (λ c κs. search needs)
-    (λ c. let k = c .before .before .before .before .before .before .before .before .before in plan-wants _ _ _
+    (λ c κs. search needs) (λ c κs. search needs) (λ c κs. search needs) (λ c κs. search needs) (λ c κs. search needs)
+    (λ c. let d = c .before in let k = d .before .before .before .before .before .before .before .before .before in
+    plan-wants _ _ _
     (record {
       awake = k .before .before .before .before .pre .0;
       room = k .before .before .before .before .pre .1;
       stages = k .retire .ensures .0;
       reg = k .retire .ensures .1;
     })
-    (sym (c .before .before .before .before .before .before .before .waits-on .ensures)
-    ∙ c .before .before .before .before .before .before .if1 .left) _
-    (c .before .before .before .before .plan .ensures) _ _ _
-    (c .before .before .fetches .ensures) (c .before .fetch-of .ensures) (c .request2 .ensures)))
+    (sym (d .before .before .before .before .before .before .before .waits-on .ensures)
+    ∙ d .before .before .before .before .before .before .if1 .left) _
+    (d .before .before .before .before .plan .ensures) _ _ _ _
+    (d .before .before .fetches .ensures) (d .before .fetch-of .ensures) (d .request2 .ensures)
+    (c .origins-in .ensures)))

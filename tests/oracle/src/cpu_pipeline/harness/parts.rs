@@ -86,6 +86,6 @@ impl Original {
 }
 
 /// Notes the Unknown words of a state to which nothing is offered.
-fn words_of(state: &State) -> UnknownWords {
+pub fn words_of(state: &State) -> UnknownWords {
     UnknownWords::of(state, &Offer::Nothing)
 }

@@ -4,6 +4,7 @@ use super::original::{Original, other_features};
 use super::unknown_words::UnknownWords;
 use super::{PipelineCpu, feature_word, from_core, register_block, special_register};
 use crate::bus::Request;
+use crate::origins;
 use crate::rows::{Input, LOAD, NORMAL, Offer, SHORT, STORE, Seen, Special, State};
 use crate::special_registers;
 
@@ -30,7 +31,9 @@ impl Original {
             self.tick_without_protection(state, special);
         }
         let next = from_core::state(&self.core, state.features, &words);
-        (next, special_registers::name(seen(&self.core), state))
+        let seen = special_registers::name(seen(&self.core), state);
+        let origins = origins::shown(self, state);
+        (next, Seen { origins, ..seen })
     }
 
     /// Tells what a tick asks for.

@@ -1,0 +1,3 @@
+pub mod Claims
+pub mod Law
+pub mod Rows

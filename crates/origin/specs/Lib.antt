@@ -1,0 +1,4 @@
+pub mod Names
+pub mod Origins
+pub mod Rows
+pub mod Claims
