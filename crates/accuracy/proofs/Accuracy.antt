@@ -15,16 +15,19 @@ use Rattle.isa.specs.Short.{decodedOf}
 use Rattle.latch.specs.Latches.{emptyIfId, emptyMemWb}
 use Rattle.latch.specs.Memory.{loads, requests}
 use Rattle.latch.specs.Retire.{halts, isFaulty}
-use Rattle.pipeline.specs.Advance.{advance, awake, next, resting}
-use Rattle.pipeline.specs.Ask.{asks, fetchAt, loadsIn, wantFetch, wantLoad, wantSpecial}
-use Rattle.pipeline.specs.Counting.{countIdle, countRetired}
-use Rattle.pipeline.specs.Execute.{inquiryOf}
-use Rattle.pipeline.specs.Fetch.{fetchPlace, fetches}
-use Rattle.pipeline.specs.Move.{inquiryIn, isWait, moveOf}
-use Rattle.pipeline.specs.Refusals.{faulty}
-use Rattle.pipeline.specs.Retire.{retire, retireStages}
+use Rattle.pipeline.specs.Advance.{advance, moveOf, next, resting}
+use Rattle.pipeline.specs.Ask.{asks, fetchAt, wantFetch, wantSpecial}
+use Rattle.pipeline.specs.Retire.{retire}
 use Rattle.pipeline.specs.Start.{fresh}
 use Rattle.pipeline.specs.Tick.{Result, moved, rawOf, refused, taken, tick, wordIn}
+use Rattle.stages.specs.Advance.{awake}
+use Rattle.stages.specs.Counting.{countIdle, countRetired}
+use Rattle.stages.specs.Execute.{inquiryOf}
+use Rattle.stages.specs.Fetch.{fetchPlace, fetches}
+use Rattle.stages.specs.Loads.{loadsIn, wantLoad}
+use Rattle.stages.specs.Move.{inquiryIn, isWait}
+use Rattle.stages.specs.Refusals.{faulty}
+use Rattle.stages.specs.Retire.{retireStages}
 use Rattle.word.specs.Words.{bit}
 use Rattle.accuracy.proofs.Feeding.{Fed, Feeds, FeedsBy, fed-whole}
 use Rattle.accuracy.proofs.Instructions.{okIn}

@@ -10,14 +10,16 @@ use Rattle.isa.specs.Operands.{bare, okDest, okOperands, operandsN, plain}
 use Rattle.isa.specs.Refusals.{instructionCode, isOf, rawCode}
 use Rattle.isa.specs.Short.{decodedOf}
 use Rattle.latch.specs.Memory.{requestIn, requests}
-use Rattle.pipeline.specs.Advance.{awake, next}
-use Rattle.pipeline.specs.Ask.{ask, askedBy, asks, fetchAt, fetchOf, loadsIn, wantFetch, wantLoad, wantOrigins}
-use Rattle.pipeline.specs.Ask.{wanted}
-use Rattle.pipeline.specs.Counting.{counterFull}
-use Rattle.pipeline.specs.Refusals.{andThen, codeOf, faulty, outOfBounds, stateTests}
-use Rattle.pipeline.specs.Retire.{retireStages}
-use Rattle.pipeline.specs.Tick.{Result, fitsOffer, fitsSpecial, isAnswer, moved, offerCode, refused, same, taken}
-use Rattle.pipeline.specs.Tick.{tests, tick, verdict}
+use Rattle.pipeline.specs.Advance.{next}
+use Rattle.pipeline.specs.Ask.{ask, askedBy, asks, fetchAt, fetchOf, wantFetch, wantOrigins, wanted}
+use Rattle.pipeline.specs.Refusals.{andThen, codeOf, stateTests}
+use Rattle.pipeline.specs.Tick.{Result, fitsOffer, fitsSpecial, isAnswer, moved, offerCode, refused, same, taken, tests}
+use Rattle.pipeline.specs.Tick.{tick, verdict}
+use Rattle.stages.specs.Advance.{awake}
+use Rattle.stages.specs.Counting.{counterFull}
+use Rattle.stages.specs.Loads.{loadsIn, wantLoad}
+use Rattle.stages.specs.Refusals.{faulty, outOfBounds}
+use Rattle.stages.specs.Retire.{retireStages}
 use Rattle.accuracy.proofs.Shows.{hides, shows}
 use Rattle.accuracy.proofs.Took.{takes, took}
 use Rattle.accuracy.specs.Accuracy.{Run, offered, offeredBy, one, oneBy, said, saidBy}

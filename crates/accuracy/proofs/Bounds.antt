@@ -21,16 +21,17 @@ use Rattle.latch.specs.Execute.{effectFrom, effectIn, exMemOf}
 use Rattle.latch.specs.Latches.{cleared, emptyExMem, emptyIdEx, emptyIfId, emptyMemWb}
 use Rattle.latch.specs.Memory.{destAfter, loads, memWbOf, passedOn, stores, valueAfter, writesAfter}
 use Rattle.latch.specs.Retire.{halts}
-use Rattle.pipeline.specs.Advance.{advance, advanceBy, advanceStages, awake, idExAfter, ifIdAfter, next, placeAfter}
-use Rattle.pipeline.specs.Advance.{resting, waitAfter}
-use Rattle.pipeline.specs.Counting.{counted, flushes, stalls}
-use Rattle.pipeline.specs.Execute.{effectFor, executed, executedBy}
-use Rattle.pipeline.specs.Fetch.{fetchFrom, fetchPlace, fetched, nextIdEx, placeOr}
-use Rattle.pipeline.specs.Move.{isWait, moveOf, nextExMem}
-use Rattle.pipeline.specs.Refusals.{outOfBounds}
-use Rattle.pipeline.specs.Retire.{retire, retireStages}
+use Rattle.pipeline.specs.Advance.{advance, moveOf, next, resting}
+use Rattle.pipeline.specs.Retire.{retire}
 use Rattle.pipeline.specs.Start.{fresh}
 use Rattle.pipeline.specs.Tick.{moved, offerCode, rawOf, taken, tick}
+use Rattle.stages.specs.Advance.{advanceBy, advanceStages, awake, idExAfter, ifIdAfter, placeAfter, waitAfter}
+use Rattle.stages.specs.Counting.{counted, flushes, stalls}
+use Rattle.stages.specs.Execute.{effectFor, executed, executedBy}
+use Rattle.stages.specs.Fetch.{fetchFrom, fetchPlace, fetched, nextIdEx, placeOr}
+use Rattle.stages.specs.Move.{isWait, nextExMem}
+use Rattle.stages.specs.Refusals.{outOfBounds}
+use Rattle.stages.specs.Retire.{retireStages}
 use Rattle.accuracy.proofs.Instructions.{short-ok, sources-in, waits-in, width-in}
 use Rattle.accuracy.proofs.Took.{took}
 use Rattle.accuracy.specs.Names.{Dest, Effect, ExMem, Given, IdEx, IfId, Instr, Mode, Move, NoSuch, Nothing, Offer}

@@ -20,20 +20,23 @@ use Rattle.latch.specs.Forwarding.{cpuidWord, forwardFrom, fromExMem, fromMemWb
 use Rattle.latch.specs.Latches.{cleared, emptyExMem, emptyIdEx, emptyIfId, emptyMemWb}
 use Rattle.latch.specs.Memory.{destAfter, loads, memWbOf, passedOn, requests, stores, valueAfter, writesAfter}
 use Rattle.latch.specs.Retire.{halts, isFaulty, retireCpuid, retireReg, retiredMode, retiredPc, retiredRegs}
-use Rattle.pipeline.specs.Advance.{advance, advanceBy, advanceStages, awake, idExAfter, ifIdAfter, next, placeAfter}
-use Rattle.pipeline.specs.Advance.{resting, waitAfter}
-use Rattle.pipeline.specs.Ask.{asks, fetchAt, loadsIn, wantFetch, wantLoad, wantSpecial}
-use Rattle.pipeline.specs.Counting.{countIdle, countRetired, counted, counterFull, flushes, isFull, stalls}
-use Rattle.pipeline.specs.Execute.{effectFor, executed, executedBy, inquiryBy, inquiryOf, redirectBy, redirectOf}
-use Rattle.pipeline.specs.Fetch.{fetchFrom, fetchPlace, fetched, fetches, nextIdEx, placeOr, predicted}
-use Rattle.pipeline.specs.Move.{beginsWait, freeMove, hazard, inquiryIn, isSlow, isWait, move, moveFrom, nextExMem}
-use Rattle.pipeline.specs.Move.{proceedOr, waitsOn}
-use Rattle.pipeline.specs.Refusals.{andThen, faulty, outOfBounds, stateTests}
-use Rattle.pipeline.specs.Retire.{retire, retireStages}
+use Rattle.pipeline.specs.Advance.{advance, next, resting}
+use Rattle.pipeline.specs.Ask.{asks, fetchAt, wantFetch, wantSpecial}
+use Rattle.pipeline.specs.Refusals.{andThen, stateTests}
+use Rattle.pipeline.specs.Retire.{retire}
 use Rattle.pipeline.specs.Start.{fresh}
 use Rattle.pipeline.specs.Tick.{fitsOffer, fitsSpecial, givenTests, isAnswer, offerCode, rawOf, same, taken, tests}
 use Rattle.pipeline.specs.Tick.{tick, verdict, wordIn}
 use Rattle.pipeline.specs.Turn.{reply}
+use Rattle.stages.specs.Advance.{advanceBy, advanceStages, awake, idExAfter, ifIdAfter, placeAfter, waitAfter}
+use Rattle.stages.specs.Counting.{countIdle, countRetired, counted, counterFull, flushes, isFull, stalls}
+use Rattle.stages.specs.Execute.{effectFor, executed, executedBy, inquiryBy, inquiryOf, redirectBy, redirectOf}
+use Rattle.stages.specs.Fetch.{fetchFrom, fetchPlace, fetched, fetches, nextIdEx, placeOr, predicted}
+use Rattle.stages.specs.Loads.{loadsIn, wantLoad}
+use Rattle.stages.specs.Move.{beginsWait, freeMove, hazard, inquiryIn, isSlow, isWait, move, moveFrom, nextExMem}
+use Rattle.stages.specs.Move.{proceedOr, waitsOn}
+use Rattle.stages.specs.Refusals.{faulty, outOfBounds}
+use Rattle.stages.specs.Retire.{retireStages}
 use Rattle.word.specs.Words.{add32, and32, bit, cut32, div32, divu32, ldih32, ldil32, mod32, mul32, mulh32, offset32}
 use Rattle.word.specs.Words.{or32, sll32, slt32, sltu32, sra32, srl32, sub32, xor32}
 use Rattle.accuracy.specs.Accuracy.{after, answers, begin, fed, one, oneBy, wordList}

@@ -5,9 +5,9 @@ use mathlib.Core.List.{List, [], _++_, _∷_, append-assoc}
 use mathlib.Core.Path.{_∙_, _≡_, ap, refl, sym}
 use Rattle.isa.specs.Machine.{Program, first, isEmpty, rest}
 use Rattle.pipeline.specs.Advance.{next}
-use Rattle.pipeline.specs.Ask.{wantLoad}
 use Rattle.pipeline.specs.Retire.{retire}
 use Rattle.pipeline.specs.Tick.{Result, moved, refused, tick, wordIn}
+use Rattle.stages.specs.Loads.{wantLoad}
 use Rattle.accuracy.proofs.Took.{answer-is, answer-none, took}
 use Rattle.accuracy.specs.Accuracy.{Run, answers, fed, one}
 use Rattle.accuracy.specs.Names.{Given, PipelineCpu}

@@ -11,8 +11,8 @@ use Rattle.isa.specs.Registers.{readReg}
 use Rattle.latch.specs.Latches.{emptyMemWb}
 use Rattle.latch.specs.Memory.{destAfter, loads, memWbOf, passedOn, stores, valueAfter, writesAfter}
 use Rattle.latch.specs.Retire.{retiredRegs}
-use Rattle.pipeline.specs.Forwarding.{forwarded}
 use Rattle.pipeline.specs.Start.{fresh}
+use Rattle.stages.specs.Forwarding.{forwarded}
 use Rattle.accuracy.proofs.Registers.{fwd-law, xmRegs}
 use Rattle.accuracy.specs.Names.{ExMem, PipelineCpu, Stages}
 

@@ -24,15 +24,17 @@ use Rattle.latch.specs.Forwarding.{cpuidWord, forwardFrom, fromExMem, fromMemWb
 use Rattle.latch.specs.Latches.{cleared, emptyExMem, emptyIdEx, emptyMemWb}
 use Rattle.latch.specs.Memory.{destAfter, loads, memWbOf, passedOn, requests, stores, valueAfter, writesAfter}
 use Rattle.latch.specs.Retire.{halts, isFaulty, retiredMode, retiredPc, retiredRegs}
-use Rattle.pipeline.specs.Advance.{advance, advanceBy, advanceStages, idExAfter, ifIdAfter, placeAfter, waitAfter}
+use Rattle.pipeline.specs.Advance.{advance, moveOf}
 use Rattle.pipeline.specs.Ask.{asks}
-use Rattle.pipeline.specs.Counting.{countRetired, counted, flushes, stalls}
-use Rattle.pipeline.specs.Execute.{effectFor, executed, executedBy, inquiryBy, inquiryOf, redirectBy, redirectOf}
-use Rattle.pipeline.specs.Fetch.{fetchFrom, fetchPlace, fetched, fetches, nextIdEx, placeOr, predicted}
-use Rattle.pipeline.specs.Forwarding.{forwarded}
-use Rattle.pipeline.specs.Move.{beginsWait, freeMove, hazard, isSlow, isWait, move, moveFrom, moveOf, nextExMem}
-use Rattle.pipeline.specs.Move.{proceedOr, waitsOn}
-use Rattle.pipeline.specs.Retire.{retire, retireStages}
+use Rattle.pipeline.specs.Retire.{retire}
+use Rattle.stages.specs.Advance.{advanceBy, advanceStages, idExAfter, ifIdAfter, placeAfter, waitAfter}
+use Rattle.stages.specs.Counting.{countRetired, counted, flushes, stalls}
+use Rattle.stages.specs.Execute.{effectFor, executed, executedBy, inquiryBy, inquiryOf, redirectBy, redirectOf}
+use Rattle.stages.specs.Fetch.{fetchFrom, fetchPlace, fetched, fetches, nextIdEx, placeOr, predicted}
+use Rattle.stages.specs.Forwarding.{forwarded}
+use Rattle.stages.specs.Move.{beginsWait, freeMove, hazard, isSlow, isWait, move, moveFrom, nextExMem, proceedOr}
+use Rattle.stages.specs.Move.{waitsOn}
+use Rattle.stages.specs.Retire.{retireStages}
 use Rattle.word.specs.Words.{bit}
 use Rattle.accuracy.proofs.Instructions.{few, go-cases, kind, load-quick, ok-dest, ok-kind, okIn, slow-load}
 use Rattle.accuracy.proofs.Path.{At, asked-at, commit-at, due, dxAt, effOf, filled-at, latch-at, ld-at, left-at}

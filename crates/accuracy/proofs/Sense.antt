@@ -6,11 +6,12 @@ use mathlib.Core.Path.{_∙_, _≡_, ap, refl, sym}
 use native.Mathlib.Omega.{arith}
 use Rattle.isa.proofs.Bools.{split}
 use Rattle.isa.specs.Machine.{Arch, Program}
-use Rattle.pipeline.specs.Advance.{advance, awake, next, resting}
-use Rattle.pipeline.specs.Counting.{countIdle, countRetired, counted}
-use Rattle.pipeline.specs.Move.{moveOf}
-use Rattle.pipeline.specs.Retire.{retire, retireStages}
+use Rattle.pipeline.specs.Advance.{advance, moveOf, next, resting}
+use Rattle.pipeline.specs.Retire.{retire}
 use Rattle.pipeline.specs.Tick.{Result, moved, refused, taken, tick}
+use Rattle.stages.specs.Advance.{awake}
+use Rattle.stages.specs.Counting.{countIdle, countRetired, counted}
+use Rattle.stages.specs.Retire.{retireStages}
 use Rattle.word.specs.Words.{bit}
 use Rattle.accuracy.proofs.Took.{advance-retired, took}
 use Rattle.accuracy.specs.Accuracy.{Retires, Run, after, one, oneBy}

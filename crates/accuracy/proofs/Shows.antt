@@ -4,15 +4,16 @@ use mathlib.Core.Path.{_∙_, _≡_, ap, refl, sym}
 use Rattle.isa.specs.Inquiries.{fill}
 use Rattle.latch.specs.Execute.{exMemOf}
 use Rattle.latch.specs.Latches.{emptyExMem}
-use Rattle.pipeline.specs.Advance.{advance, advanceBy, advanceStages, awake, next}
-use Rattle.pipeline.specs.Ask.{wantOrigins, wantSpecial}
-use Rattle.pipeline.specs.Execute.{effectFor, executed, executedBy, inquiryBy, inquiryOf}
-use Rattle.pipeline.specs.Forwarding.{originsFor}
-use Rattle.pipeline.specs.Move.{inquiryIn, isWait, moveOf, nextExMem, originsIn}
+use Rattle.pipeline.specs.Advance.{advance, moveOf, next}
+use Rattle.pipeline.specs.Ask.{originsIn, wantOrigins, wantSpecial}
 use Rattle.pipeline.specs.Parts.{executePart}
-use Rattle.pipeline.specs.Refusals.{outOfBounds}
 use Rattle.pipeline.specs.Retire.{retire}
 use Rattle.pipeline.specs.Tick.{moved, taken, tick}
+use Rattle.stages.specs.Advance.{advanceBy, advanceStages, awake}
+use Rattle.stages.specs.Execute.{effectFor, executed, executedBy, inquiryBy, inquiryOf}
+use Rattle.stages.specs.Forwarding.{originsFor}
+use Rattle.stages.specs.Move.{inquiryIn, isWait, nextExMem}
+use Rattle.stages.specs.Refusals.{outOfBounds}
 use Rattle.accuracy.proofs.Bounds.{Within, in-bounds, retire-in, within}
 use Rattle.accuracy.proofs.Took.{took}
 use Rattle.accuracy.specs.Asking.{Executes}

@@ -9,13 +9,17 @@ use Rattle.isa.proofs.NoCode.{no-code}
 use Rattle.isa.specs.Refusals.{isOf, rawCode}
 use Rattle.isa.specs.Short.{decodedOf}
 use Rattle.latch.specs.Retire.{halts}
-use Rattle.pipeline.specs.Advance.{advance, advanceBy, advanceStages, next}
-use Rattle.pipeline.specs.Ask.{fetchAt, wantFetch, wantLoad, wantSpecial}
-use Rattle.pipeline.specs.Counting.{countRetired, counted, counterFull}
-use Rattle.pipeline.specs.Refusals.{andThen, faulty, outOfBounds, stateTests}
-use Rattle.pipeline.specs.Retire.{retire, retireStages}
+use Rattle.pipeline.specs.Advance.{advance, next}
+use Rattle.pipeline.specs.Ask.{fetchAt, wantFetch, wantSpecial}
+use Rattle.pipeline.specs.Refusals.{andThen, stateTests}
+use Rattle.pipeline.specs.Retire.{retire}
 use Rattle.pipeline.specs.Tick.{fitsOffer, fitsSpecial, givenTests, isAnswer, moved, offerCode, rawOf, same, taken}
 use Rattle.pipeline.specs.Tick.{tests, tick, verdict, wordIn}
+use Rattle.stages.specs.Advance.{advanceBy, advanceStages}
+use Rattle.stages.specs.Counting.{countRetired, counted, counterFull}
+use Rattle.stages.specs.Loads.{wantLoad}
+use Rattle.stages.specs.Refusals.{faulty, outOfBounds}
+use Rattle.stages.specs.Retire.{retireStages}
 use Rattle.accuracy.proofs.Instructions.{okIn}
 use Rattle.accuracy.proofs.Passed.{Passed, passed}
 use Rattle.accuracy.specs.Accuracy.{wordList}

@@ -9,11 +9,11 @@ use Rattle.isa.specs.Short.{decodedOf}
 use Rattle.latch.specs.Latches.{emptyExMem}
 use Rattle.pipeline.specs.Advance.{next}
 use Rattle.pipeline.specs.Ask.{ask}
-use Rattle.pipeline.specs.Execute.{effectFor}
 use Rattle.pipeline.specs.Parts.{executePart}
 use Rattle.pipeline.specs.Retire.{retire}
 use Rattle.pipeline.specs.Tick.{fitsOffer, isAnswer, moved, offerCode, refused, taken, tick}
 use Rattle.pipeline.specs.Turn.{reply}
+use Rattle.stages.specs.Execute.{effectFor}
 use Rattle.accuracy.specs.Accuracy.{Run, offered, one, said}
 use Rattle.accuracy.specs.Names.{Both, Done, ExMem, Fetch, From, Given, Instr, Load, Mode, NoFetch, NoOrigins}
 use Rattle.accuracy.specs.Names.{NoRequest, Normal, NotAsked, Of, Offer, Origins, PipelineCpu, RawInstr, Request}

@@ -2,9 +2,9 @@
 -- word: Words. isa: Short (short decode), Operands, Effect (execute), Waits (MUL to MOD, used loads, prediction),
 -- Registers, Redirects, Refusals (1), Inquiries (special registers), Machine (the one-at-a-time machine). latch:
 -- Latches, Decode, Forwarding, Execute, Memory, Retire, Bounds (refusal 11 of each latch). origin: Origins (where a
--- value comes from). pipeline: Forwarding,
--- Execute, Counting, Retire, Move, Fetch, Advance (the tick's moves), Start, Refusals (11, 12, 13), Ask (asking),
--- Tick (3, 4, 10), Turn (a source's tick).
+-- value comes from). stages: Forwarding, Execute, Counting, Retire, Move, Fetch, Advance (the tick's moves), Refusals
+-- (11, 12), Loads. pipeline: Retire, Advance, Start, Refusals (13), Ask (asking), Tick (3, 4, 10), Turn (a source's
+-- tick).
 -- Here: Count (M, D, L, R, the formula), Accuracy (RULES 15.6), Asking, Example.
 use Prim.Native.Nat.{suc, ℕ}
 use lib.ListN.{length}
@@ -21,10 +21,10 @@ use Rattle.latch.specs.Forwarding.{forwardFrom}
 use Rattle.latch.specs.Memory.{memWbOf}
 use Rattle.latch.specs.Retire.{retiredRegs}
 use Rattle.origin.specs.Origins.{originsOf, valueFrom}
-use Rattle.pipeline.specs.Forwarding.{forwarded}
-use Rattle.pipeline.specs.Refusals.{outOfBounds}
 use Rattle.pipeline.specs.Start.{fresh}
 use Rattle.pipeline.specs.Tick.{moved, tick, ticked}
+use Rattle.stages.specs.Forwarding.{forwarded}
+use Rattle.stages.specs.Refusals.{outOfBounds}
 use Rattle.accuracy.specs.Accuracy.{Agree, AgreeSaid, Demand3, Demand3For, Retires, Run, after, firstOffer}
 use Rattle.accuracy.specs.Accuracy.{firstSaid, offered, one, said}
 use Rattle.accuracy.specs.Asking.{Asking, replies}

@@ -36,13 +36,19 @@ pub use Rattle.latch.specs.declared.IdEx.{IdEx}
 pub use Rattle.latch.specs.declared.ExMem.{ExMem}
 pub use Rattle.latch.specs.declared.MemWb.{MemWb}
 pub use Rattle.origin.specs.declared.Origins.{Origins}
+pub use Rattle.stages.specs.declared.Taken.{Taken}
+pub use Rattle.stages.specs.declared.Move.{Move}
+pub use Rattle.stages.specs.declared.Move.the-variants.{KeepWaiting as keepWaiting, BeginWait as beginWait}
+pub use Rattle.stages.specs.declared.Move.the-variants.{LoadUseStall as loadUseStall, Proceed as proceed}
+pub use Rattle.stages.specs.declared.Move.the-variants.{Redirect as redirect}
+pub use Rattle.stages.specs.declared.Stages.{Stages}
+pub use Rattle.stages.specs.declared.Place.{Place}
 pub use Rattle.pipeline.specs.declared.PipelineCpu.{PipelineCpu}
 pub use Rattle.pipeline.specs.declared.Offer.{Offer}
 pub use Rattle.pipeline.specs.declared.Offer.the-variants.{Nothing, Instr}
 pub use Rattle.pipeline.specs.declared.Answer.{Answer}
 pub use Rattle.pipeline.specs.declared.Answer.the-variants.{None as NoAnswer, Word}
 pub use Rattle.pipeline.specs.declared.Given.{Given}
-pub use Rattle.pipeline.specs.declared.Taken.{Taken}
 pub use Rattle.pipeline.specs.declared.Outcome.the-variants.{Refused}
 pub use Rattle.pipeline.specs.declared.Fetch.{Fetch}
 pub use Rattle.pipeline.specs.declared.Fetch.the-variants.{None as NoFetch, From}
@@ -51,9 +57,3 @@ pub use Rattle.pipeline.specs.declared.Shown.the-variants.{None as NoOrigins, B
 pub use Rattle.pipeline.specs.declared.Wanted.{Wanted}
 pub use Rattle.pipeline.specs.declared.Asked.the-variants.{Refused as NotAsked, Wants}
 pub use Rattle.pipeline.specs.declared.Executed.the-variants.{Done}
-pub use Rattle.pipeline.specs.declared.Move.{Move}
-pub use Rattle.pipeline.specs.declared.Move.the-variants.{KeepWaiting as keepWaiting, BeginWait as beginWait}
-pub use Rattle.pipeline.specs.declared.Move.the-variants.{LoadUseStall as loadUseStall, Proceed as proceed}
-pub use Rattle.pipeline.specs.declared.Move.the-variants.{Redirect as redirect}
-pub use Rattle.pipeline.specs.declared.Stages.{Stages}
-pub use Rattle.pipeline.specs.declared.Place.{Place}

@@ -14,11 +14,11 @@ use Rattle.accuracy.proofs.Took.{took}
 use Rattle.accuracy.specs.Accuracy.{Run, after, one, oneBy}
 use Rattle.isa.proofs.Bools.{split}
 use Rattle.isa.specs.Machine.{Arch, Machine, Program, machine}
-use Rattle.pipeline.specs.Advance.{advance, awake, next, resting}
-use Rattle.pipeline.specs.Counting.{countIdle}
-use Rattle.pipeline.specs.Move.{moveOf}
+use Rattle.pipeline.specs.Advance.{advance, moveOf, next, resting}
 use Rattle.pipeline.specs.Retire.{retire}
 use Rattle.pipeline.specs.Tick.{Result, moved, refused, taken, tick}
+use Rattle.stages.specs.Advance.{awake}
+use Rattle.stages.specs.Counting.{countIdle}
 use Rattle.agreement.specs.Names.{Given, PipelineCpu}
 
 module _ (prog : Program) (w₀ : Arch) (len : length (w₀ .reg) ≡ 32) (nought : getD (w₀ .reg) 0 0 ≡ 0) where

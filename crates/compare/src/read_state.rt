@@ -11,12 +11,12 @@ use crate::read_latch::mem_wb;
 use isa::Special;
 use isa::Start;
 use pipeline::Answer;
-use pipeline::Counters;
 use pipeline::Given;
 use pipeline::Offer;
 use pipeline::PipelineCpu;
-use pipeline::Place;
-use pipeline::Stages;
+use stages::Counters;
+use stages::Place;
+use stages::Stages;
 
 // The registers, which stand first.
 fn registers(n: &[u32; 192]) -> [u32; 32] {

@@ -15,12 +15,12 @@ use isa::Redirect;
 use isa::Request;
 use origin::Origins;
 use pipeline::Asked;
-use pipeline::Counters;
 use pipeline::Fetch;
 use pipeline::PipelineCpu;
-use pipeline::Place;
 use pipeline::Shown;
-use pipeline::Stages;
+use stages::Counters;
+use stages::Place;
+use stages::Stages;
 
 pub fn set_registers(n: &mut [u32; 192], at: usize, reg: [u32; 32]) {
     let mut i: usize = 0;

@@ -4,9 +4,9 @@ use lib.ListN.{length}
 use mathlib.Core.Bool.{true}
 use mathlib.Core.List.{List, [], _∷_}
 use mathlib.Core.Path.{_≡_}
-use Rattle.pipeline.specs.Refusals.{outOfBounds}
 use Rattle.runs.specs.Rows.{haltSheet}
 use Rattle.runs.specs.Run.{ran, refusedRun}
+use Rattle.stages.specs.Refusals.{outOfBounds}
 use Rattle.panel.specs.Names.{PipelineCpu}
 use Rattle.panel.specs.Panel.{previewed}
 

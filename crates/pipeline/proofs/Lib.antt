@@ -1,3 +1,2 @@
-pub mod Moves
 pub mod Refusing
 pub mod Running

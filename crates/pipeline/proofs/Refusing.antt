@@ -1,25 +1,26 @@
 -- The numbers that the code computes decide as the definitions' tests do. Assumes nothing.
 use Prim.Native.Nat.{ℕ}
 use lib.Dec.{ltb}
-use mathlib.Core.Bool.{Bool, _&&_, _||_, cond, false, false≢true, not, true}
+use mathlib.Core.Bool.{Bool, _&&_, cond, false, false≢true, not, true}
 use mathlib.Core.Path.{_∙_, _≡_, ap, refl, sym}
-use Rattle.isa.proofs.Bools.{or-l, or-r}
 use Rattle.isa.specs.Refusals.{isOf}
 use Rattle.latch.specs.Memory.{requestIn}
-use Rattle.pipeline.specs.Advance.{awake, next, resting}
-use Rattle.pipeline.specs.Ask.{ask, askedBy, asks, fetchAt, fetchOf, loadsIn, wantFetch, wantLoad, wantOrigins}
-use Rattle.pipeline.specs.Ask.{wantSpecial, wanted}
-use Rattle.pipeline.specs.Counting.{countIdle, counterFull, unlessFull}
-use Rattle.pipeline.specs.Fetch.{fetches}
-use Rattle.pipeline.specs.Inner.{Tells, TellsAll, refusedWith, tickedOn}
-use Rattle.pipeline.specs.Move.{moveOf}
+use Rattle.stages.specs.Advance.{awake}
+use Rattle.stages.specs.Counting.{countIdle, counterFull, unlessFull}
+use Rattle.stages.specs.Fetch.{fetches}
+use Rattle.stages.specs.Loads.{loadsIn, wantLoad}
+use Rattle.stages.specs.Refusals.{faulty, outOfBounds}
+use Rattle.stages.specs.Retire.{retireStages}
+use Rattle.pipeline.specs.Advance.{moveOf, next, resting}
+use Rattle.pipeline.specs.Ask.{ask, askedBy, asks, fetchAt, fetchOf, wantFetch, wantOrigins, wantSpecial, wanted}
+use Rattle.pipeline.specs.Inner.{refusedWith, tickedOn}
 use Rattle.pipeline.specs.Names.{Accepted, Counters, Given, Inquiry, Instr, Mode, NoFetch, NoInquiry, NoOrigins}
 use Rattle.pipeline.specs.Names.{NoRequest, Normal, NotAsked, Nothing, Offer, PipelineCpu, RawInstr, Wants}
 use Rattle.pipeline.specs.Parts.{retirePart}
-use Rattle.pipeline.specs.Refusals.{Tests, andThen, codeOf, faulty, outOfBounds, pass, stateTests, test}
-use Rattle.pipeline.specs.Retire.{retire, retireStages}
-use Rattle.pipeline.specs.Tick.{Result, fitsOffer, fitsSpecial, givenTests, handedBack, isAnswer, offerCode}
-use Rattle.pipeline.specs.Tick.{same, taken, tests, tick, ticked, verdict}
+use Rattle.pipeline.specs.Refusals.{Tests, andThen, codeOf, pass, stateTests, test}
+use Rattle.pipeline.specs.Retire.{retire}
+use Rattle.pipeline.specs.Tick.{Result, fitsOffer, fitsSpecial, givenTests, handedBack, isAnswer, offerCode, same}
+use Rattle.pipeline.specs.Tick.{taken, tests, tick, ticked, verdict}
 
 pub fits-none : (f : Bool) → (m : Mode) → not f ≡ fitsOffer f m Nothing
 unfolding fitsOffer
@@ -155,28 +156,6 @@ module _ (s : PipelineCpu) (e : awake (s .stages) ≡ false) where
   pub rest-wants : record { fetch = NoFetch; request = NoRequest; special = NoInquiry; origins = NoOrigins } ≡ wanted s
   unfolding wanted asks wantOrigins fetchOf requestIn
   rest-wants = rw (rest-fetch, rest-special, e)
-
--- five counters, each told
-pub full-by :
-    (s : Counters) →
-    (b1 b2 b3 b4 b5 : Bool) →
-    Tells (s .cycles) b1 →
-    Tells (s .«running_cycles») b2 →
-    Tells (s .«instructions_executed») b3 →
-    Tells (s .«stall_cycles») b4 →
-    Tells (s .«flush_events») b5 →
-    TellsAll s (b1 || (b2 || (b3 || (b4 || b5))))
-unfolding counterFull
-full-by s b1 b2 b3 b4 b5 t1 t2 t3 t4 t5 = record {
-  is = rw (t1 .is, t2 .is, t3 .is, t4 .is, t5 .is);
-  room = λ e. let e2 = or-r b1 _ e in let e3 = or-r b2 _ e2 in let e4 = or-r b3 _ e3 in record {
-    cycles = t1 .room (or-l b1 _ e);
-    «running_cycles» = t2 .room (or-l b2 _ e2);
-    «instructions_executed» = t3 .room (or-l b3 _ e3);
-    «stall_cycles» = t4 .room (or-l b4 _ e4);
-    «flush_events» = t5 .room (or-r b4 _ e4);
-  };
-}
 
 -- asking and retirement, by the code of the state
 module _ (s : PipelineCpu) (k : ℕ) (e : k ≡ codeOf (stateTests (faulty (s .stages)) s)) where

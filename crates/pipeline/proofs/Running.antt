@@ -1,6 +1,6 @@
 -- A tick that moves, by the stages and registers that retirement leaves. Assumes nothing.
 use Prim.Native.Nat.{ℕ}
-use mathlib.Core.Bool.{Bool, _&&_, cond, false, not, true}
+use mathlib.Core.Bool.{Bool, _&&_, cond, false, true}
 use mathlib.Core.List.{List}
 use mathlib.Core.Path.{_∙_, _≡_, refl, sym}
 use Rattle.isa.proofs.Bools.{split}
@@ -10,24 +10,23 @@ use Rattle.latch.specs.Decode.{decodePredicted, idExOf}
 use Rattle.latch.specs.Execute.{exMemOf}
 use Rattle.latch.specs.Latches.{emptyExMem}
 use Rattle.latch.specs.Memory.{requestIn, requests}
-use Rattle.latch.specs.Retire.{halts}
+use Rattle.stages.specs.Advance.{advanceBy, advanceStages, awake, idExAfter, ifIdAfter, placeAfter}
+use Rattle.stages.specs.Counting.{countRetired, counted, stalls, unlessFull}
+use Rattle.stages.specs.Execute.{effectFor, executed, executedBy, inquiryBy, inquiryOf}
+use Rattle.stages.specs.Fetch.{fetches, nextIdEx, predicted}
+use Rattle.stages.specs.Loads.{loadsIn, wantLoad}
+use Rattle.stages.specs.Move.{freeMove, inquiryIn, isWait, move, nextExMem, waitsOn}
+use Rattle.stages.specs.Plans.{advancePlan, frontOf, idExFrom, openExMem, planFetches, planOf, saidExMem, waited}
+use Rattle.stages.specs.Retire.{retireStages}
 use Rattle.pipeline.proofs.Refusing.{fits-false, tickCode}
-use Rattle.pipeline.specs.Advance.{advance, advanceBy, advanceStages, awake, idExAfter, ifIdAfter, next}
-use Rattle.pipeline.specs.Advance.{placeAfter}
-use Rattle.pipeline.specs.Ask.{asks, fetchAt, fetchOf, loadsIn, wantFetch, wantLoad, wantOrigins, wantSpecial}
-use Rattle.pipeline.specs.Ask.{wanted}
-use Rattle.pipeline.specs.Counting.{countRetired, counted, stalls, unlessFull}
-use Rattle.pipeline.specs.Execute.{effectFor, executed, executedBy, inquiryBy, inquiryOf}
-use Rattle.pipeline.specs.Fetch.{fetches, nextIdEx, predicted}
+use Rattle.pipeline.specs.Advance.{advance, moveOf, next}
+use Rattle.pipeline.specs.Ask.{asks, fetchAt, fetchOf, originsIn, wantFetch, wantOrigins, wantSpecial, wanted}
 use Rattle.pipeline.specs.Inner.{Retired}
-use Rattle.pipeline.specs.Move.{freeMove, inquiryIn, isWait, move, moveOf, nextExMem, originsIn, waitsOn}
 use Rattle.pipeline.specs.Names.{Counters, Effect, Fetch, Given, IdEx, Inquiry, Move, NoFetch, NoInquiry}
 use Rattle.pipeline.specs.Names.{NoOrigins, Normal, PipelineCpu, Plan, Request, Shown, Special, Stages, Taken}
 use Rattle.pipeline.specs.Names.{keepWaiting}
-use Rattle.pipeline.specs.Plans.{advancePlan, frontOf, idExFrom, openExMem, planFetches, planOf, saidExMem}
-use Rattle.pipeline.specs.Plans.{waited}
 use Rattle.pipeline.specs.Refusals.{codeOf}
-use Rattle.pipeline.specs.Retire.{retire, retireStages}
+use Rattle.pipeline.specs.Retire.{retire}
 use Rattle.pipeline.specs.Tick.{givenTests}
 
 id-ex-next : (l : Stages) → (rs : List ℕ) → idExFrom (l .«if_id») (frontOf (l .«if_id»)) rs ≡ nextIdEx l rs
@@ -166,8 +165,3 @@ module _ (s : PipelineCpu) (l : Stages) (rs : List ℕ) (b : Retired s l rs) whe
         → record { reg = rs; stages = a; counts = c } ≡ next s y
     unfolding planOf
     plan-next a c x y ea ec ex = next-by (p .step) a c x y frees (ea ∙ rw ep (planned l rs x)) ec ex
-
--- a load is asked for after retirement: a HALT in MEM/WB empties EX/MEM first
-pub loads-after : (l : Stages) → awake l && (not (halts (l .«mem_wb»)) && loadsIn l) ≡ wantLoad l
-unfolding wantLoad loadsIn retireStages emptyExMem
-loads-after l = split (halts (l .«mem_wb»)) (λ e. rw e) (λ e. rw e)

@@ -1,12 +1,6 @@
 pub mod Names
-pub mod Forwarding
-pub mod Execute
-pub mod Counting
 pub mod Retire
-pub mod Move
-pub mod Fetch
 pub mod Advance
-pub mod Plans
 pub mod Start
 pub mod Refusals
 pub mod Ask

@@ -6,28 +6,27 @@ pub use Rattle.isa.specs.declared.Instruction.the-variants.{Nop}
 pub use Rattle.isa.specs.declared.RawInstr.{RawInstr}
 pub use Rattle.isa.specs.declared.RawInstr.the-variants.{Normal as RawNormal}
 pub use Rattle.isa.specs.declared.Decoded.{Decoded}
-pub use Rattle.isa.specs.declared.Redirect.{Redirect}
-pub use Rattle.isa.specs.declared.Redirect.the-variants.{Next, To}
 pub use Rattle.isa.specs.declared.Request.{Request}
 pub use Rattle.isa.specs.declared.Request.the-variants.{None as NoRequest}
 pub use Rattle.isa.specs.declared.Inquiry.{Inquiry}
 pub use Rattle.isa.specs.declared.Inquiry.the-variants.{None as NoInquiry}
 pub use Rattle.isa.specs.declared.Special.{Special}
-pub use Rattle.isa.specs.declared.Operands.{Operands}
 pub use Rattle.isa.specs.declared.Effect.{Effect}
 pub use Rattle.latch.specs.declared.IfId.{IfId}
 pub use Rattle.latch.specs.declared.IdEx.{IdEx}
-pub use Rattle.latch.specs.declared.ExMem.{ExMem}
-pub use Rattle.origin.specs.declared.Origin.{Origin}
-pub use Rattle.origin.specs.declared.Origins.{Origins}
+pub use Rattle.stages.specs.declared.Taken.{Taken}
+pub use Rattle.stages.specs.declared.Move.{Move}
+pub use Rattle.stages.specs.declared.Move.the-variants.{KeepWaiting as keepWaiting}
+pub use Rattle.stages.specs.declared.Stages.{Stages}
+pub use Rattle.stages.specs.declared.Counters.{Counters}
+pub use Rattle.stages.specs.declared.Place.{Place}
+pub use Rattle.stages.specs.declared.Plan.{Plan}
 pub use Rattle.pipeline.specs.declared.PipelineCpu.{PipelineCpu}
 pub use Rattle.pipeline.specs.declared.Offer.{Offer}
 pub use Rattle.pipeline.specs.declared.Offer.the-variants.{Nothing, Instr}
 pub use Rattle.pipeline.specs.declared.Answer.{Answer}
 pub use Rattle.pipeline.specs.declared.Answer.the-variants.{None as NoAnswer, Word}
 pub use Rattle.pipeline.specs.declared.Given.{Given}
-pub use Rattle.pipeline.specs.declared.Taken.{Taken}
-pub use Rattle.pipeline.specs.declared.Outcome.{Outcome}
 pub use Rattle.pipeline.specs.declared.Outcome.the-variants.{Accepted, Refused}
 pub use Rattle.pipeline.specs.declared.Ticked.{Ticked}
 pub use Rattle.pipeline.specs.declared.Fetch.{Fetch}
@@ -37,18 +36,8 @@ pub use Rattle.pipeline.specs.declared.Shown.the-variants.{None as NoOri
 pub use Rattle.pipeline.specs.declared.Wanted.{Wanted}
 pub use Rattle.pipeline.specs.declared.Asked.{Asked}
 pub use Rattle.pipeline.specs.declared.Asked.the-variants.{Refused as NotAsked, Wants}
-pub use Rattle.pipeline.specs.declared.Move.{Move}
-pub use Rattle.pipeline.specs.declared.Move.the-variants.{KeepWaiting as keepWaiting, BeginWait as beginWait}
-pub use Rattle.pipeline.specs.declared.Move.the-variants.{LoadUseStall as loadUseStall, Proceed as proceed}
-pub use Rattle.pipeline.specs.declared.Move.the-variants.{Redirect as redirect}
-pub use Rattle.pipeline.specs.declared.Stages.{Stages}
-pub use Rattle.pipeline.specs.declared.Counters.{Counters}
-pub use Rattle.pipeline.specs.declared.Place.{Place}
-pub use Rattle.pipeline.specs.declared.Front.{Front}
-pub use Rattle.pipeline.specs.declared.Plan.{Plan}
 pub use Rattle.pipeline.specs.declared.Forwarded.{Forwarded}
 pub use Rattle.pipeline.specs.declared.Forwarded.the-variants.{Refused as NotForwarded, Word as ForwardedWord}
-pub use Rattle.pipeline.specs.declared.Execution.{Execution}
 pub use Rattle.pipeline.specs.declared.Executed.{Executed}
 pub use Rattle.pipeline.specs.declared.Executed.the-variants.{Refused as NotExecuted, Done}
 pub use Rattle.pipeline.specs.declared.DecodedId.{DecodedId}

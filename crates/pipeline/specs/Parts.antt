@@ -9,13 +9,14 @@ use Rattle.isa.specs.Short.{decodedOf}
 use Rattle.latch.specs.Bounds.{badIdEx, badIfId}
 use Rattle.latch.specs.Decode.{decodeId, loadUse}
 use Rattle.latch.specs.Execute.{exMemOf}
-use Rattle.pipeline.specs.Execute.{effectFor}
-use Rattle.pipeline.specs.Forwarding.{forwarded, originOf, originsFor}
+use Rattle.stages.specs.Execute.{effectFor}
+use Rattle.stages.specs.Forwarding.{forwarded, originOf, originsFor}
+use Rattle.stages.specs.Refusals.{faulty, outOfBounds}
 use Rattle.pipeline.specs.Names.{Decoded, DecodedId, DecodedTo, Done, Executed, Forwarded, ForwardedWord, Hazard}
 use Rattle.pipeline.specs.Names.{IdEx, IfId, Latency, MulDiv, NoHazardTest, NoLatency, NoSources, NotDecoded}
 use Rattle.pipeline.specs.Names.{NotExecuted, NotForwarded, NotMulDiv, PipelineCpu, Sources, Special, Ticked, Two}
 use Rattle.pipeline.specs.Names.{Waits}
-use Rattle.pipeline.specs.Refusals.{faulty, outOfBounds, stateTests}
+use Rattle.pipeline.specs.Refusals.{stateTests}
 use Rattle.pipeline.specs.Retire.{retire}
 use Rattle.pipeline.specs.Tick.{fitsSpecial, handedBack, verdict}
 

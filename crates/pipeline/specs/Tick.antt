@@ -4,11 +4,13 @@ use lib.Dec.{ltb}
 use mathlib.Core.Bool.{Bool, cond, false, not, true}
 use Rattle.isa.specs.Inquiries.{isInquiry, isSaid}
 use Rattle.isa.specs.Refusals.{isOf, rawCode}
+use Rattle.stages.specs.Loads.{wantLoad}
+use Rattle.stages.specs.Refusals.{faulty}
 use Rattle.pipeline.specs.Advance.{next}
-use Rattle.pipeline.specs.Ask.{fetchAt, wantFetch, wantLoad, wantSpecial}
+use Rattle.pipeline.specs.Ask.{fetchAt, wantFetch, wantSpecial}
 use Rattle.pipeline.specs.Names.{Accepted, Answer, Given, Inquiry, Instr, Mode, NoAnswer, Nop, Nothing, Offer}
 use Rattle.pipeline.specs.Names.{PipelineCpu, RawInstr, RawNormal, Refused, Special, Taken, Ticked, Word}
-use Rattle.pipeline.specs.Refusals.{Tests, andThen, faulty, pass, stateTests, test}
+use Rattle.pipeline.specs.Refusals.{Tests, andThen, pass, stateTests, test}
 
 -- 1 of what is offered, 0 for none
 unfoldable pub offerCode : Offer → ℕ

@@ -3,7 +3,8 @@ use Prim.Native.Nat.{ℕ}
 use mathlib.Core.Bool.{cond}
 use Rattle.isa.specs.Inquiries.{lookUp}
 use Rattle.isa.specs.Machine.{Source}
-use Rattle.pipeline.specs.Ask.{fetchAt, wantFetch, wantLoad, wantSpecial}
+use Rattle.stages.specs.Loads.{wantLoad}
+use Rattle.pipeline.specs.Ask.{fetchAt, wantFetch, wantSpecial}
 use Rattle.pipeline.specs.Names.{Given, Instr, NoAnswer, Nothing, PipelineCpu, Word}
 
 -- a tick made by asking, answered from a source; v is the answer of a load

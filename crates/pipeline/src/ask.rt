@@ -1,21 +1,21 @@
 // Asking beforehand.
 ghost use mathlib.Core.Bool.{false, true};
 ghost use mathlib.Core.Path.{_≡_};
-ghost use Rattle.pipeline.specs.Advance.{awake};
-ghost use Rattle.pipeline.specs.Ask.{ask, fetchOf, wanted};
-ghost use Rattle.pipeline.specs.Counting.{counterFull};
-ghost use Rattle.pipeline.specs.Move.{isWait, originsIn};
+ghost use Rattle.stages.specs.Advance.{awake};
+ghost use Rattle.stages.specs.Counting.{counterFull};
+ghost use Rattle.stages.specs.Move.{isWait};
+ghost use Rattle.pipeline.specs.Ask.{ask, fetchOf, originsIn, wanted};
 use crate::Asked;
 use crate::Fetch;
-use crate::Move;
 use crate::PipelineCpu;
-use crate::Place;
 use crate::Shown;
-use crate::Stages;
 use crate::Wanted;
 use isa::Inquiry;
 use isa::Request;
 use origin::choice::origins_of;
+use stages::Move;
+use stages::Place;
+use stages::Stages;
 
 fn fetch_of(fetches: bool, place: Place) -> Fetch
     ensures { λ r. ⌜ r ≡ fetchOf fetches place ⌝ }

@@ -1,45 +1,14 @@
 // Refusals, as numbers: 0 where none applies.
 ghost use mathlib.Core.Path.{_≡_};
-ghost use Rattle.pipeline.specs.Advance.{awake};
-ghost use Rattle.pipeline.specs.Refusals.{codeOf, faulty, outOfBounds, stateTests};
+ghost use Rattle.pipeline.specs.Refusals.{codeOf, stateTests};
 ghost use Rattle.pipeline.specs.Tick.{fitsOffer, fitsSpecial, givenTests, isAnswer, offerCode, same};
 use crate::Answer;
 use crate::Given;
 use crate::Offer;
 use crate::PipelineCpu;
-use crate::Stages;
 use isa::Inquiry;
 use isa::Mode;
 use isa::Special;
-
-impl Stages {
-    // A latch out of its bounds, or a wait above 15.
-    pub fn out_of_bounds(self) -> bool
-        ensures { λ r. ⌜ r ≡ outOfBounds self ⌝ }
-    {
-        let f = self.if_id;
-        let d = self.id_ex;
-        let x = self.ex_mem;
-        let m = self.mem_wb;
-        let late = x.out_of_bounds() | (m.out_of_bounds() | (15 < self.ex_cycles_left));
-        f.out_of_bounds() | (d.out_of_bounds() | late)
-    }
-
-    // Whether a tick moves anything.
-    pub(crate) fn is_awake(self) -> bool
-        ensures { λ r. ⌜ r ≡ awake self ⌝ }
-    {
-        self.running
-    }
-
-    // Running, and MEM/WB holds an exception, MTSR or IRET.
-    pub fn is_faulty(self) -> bool
-        ensures { λ r. ⌜ r ≡ faulty self ⌝ }
-    {
-        let m = self.mem_wb;
-        self.is_awake() & m.is_faulty()
-    }
-}
 
 impl PipelineCpu {
     // 11, 12 or 13; whether 12 applies is told by the caller.

@@ -1,15 +1,15 @@
 // Start.
 ghost use mathlib.Core.Path.{_≡_};
 ghost use Rattle.pipeline.specs.Start.{fresh};
-use crate::Counters;
 use crate::PipelineCpu;
-use crate::Place;
-use crate::Stages;
 use isa::Start;
 use latch::ExMem;
 use latch::IdEx;
 use latch::IfId;
 use latch::MemWb;
+use stages::Counters;
+use stages::Place;
+use stages::Stages;
 
 impl PipelineCpu {
     // The state that a program starts in: R0 becomes 0, latches are empty, no wait, running, counters 0.

@@ -1,64 +1,25 @@
 // The tick.
 ghost use mathlib.Core.Bool.{false, true};
 ghost use mathlib.Core.Path.{_≡_};
-ghost use Rattle.pipeline.specs.Advance.{awake};
-ghost use Rattle.pipeline.specs.Ask.{loadsIn, wantLoad};
-ghost use Rattle.pipeline.specs.Counting.{counterFull};
-ghost use Rattle.pipeline.specs.Fetch.{fetches};
+ghost use Rattle.stages.specs.Advance.{awake};
+ghost use Rattle.stages.specs.Counting.{counterFull};
+ghost use Rattle.stages.specs.Move.{waitsOn};
 ghost use Rattle.pipeline.specs.Inner.{Retired, acceptedWith, refusedWith, tickedOn};
-ghost use Rattle.pipeline.specs.Move.{waitsOn};
-ghost use Rattle.pipeline.specs.Plans.{planFetches};
 ghost use Rattle.pipeline.specs.Tick.{rawOf, taken, ticked, wordIn};
 use crate::Answer;
-use crate::Counters;
 use crate::Given;
-use crate::Move;
 use crate::Offer;
 use crate::Outcome;
 use crate::PipelineCpu;
-use crate::Plan;
-use crate::Stages;
-use crate::Taken;
 use crate::Ticked;
 use isa::Inquiry;
 use isa::Instruction;
 use isa::Mode;
 use isa::RawInstr;
-
-impl Move {
-    // A move that does not hold the front end fetches, a redirect too.
-    fn fetches(self) -> bool
-        ensures { λ r. ⌜ r ≡ fetches self ⌝ }
-    {
-        !self.stalls()
-    }
-}
-
-impl Stages {
-    // Whether this plan fetches; a machine that has halted does not.
-    pub fn fetches(self, plan: Plan) -> bool
-        ensures { λ r. ⌜ r ≡ planFetches self plan ⌝ }
-    {
-        let step = plan.step;
-        self.running & step.fetches()
-    }
-
-    // Whether EX/MEM asks for a load.
-    pub(crate) fn loads(self) -> bool
-        ensures { λ r. ⌜ r ≡ loadsIn self ⌝ }
-    {
-        let x = self.ex_mem;
-        x.valid & x.loads()
-    }
-
-    // Whether a tick will load: a HALT in MEM/WB empties EX/MEM first.
-    pub fn wants_load(self) -> bool
-        ensures { λ r. ⌜ r ≡ wantLoad self ⌝ }
-    {
-        let m = self.mem_wb;
-        self.is_awake() & (!m.halts() & self.loads())
-    }
-}
+use stages::Counters;
+use stages::Move;
+use stages::Stages;
+use stages::Taken;
 
 // The instruction that is offered; a NOP stands for none, and is not looked at.
 fn raw_of(offer: Offer) -> RawInstr

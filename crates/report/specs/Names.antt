@@ -5,5 +5,5 @@ pub use Rattle.isa.specs.declared.Exception.the-variants.{IllegalInstruction, S
 pub use Rattle.sheet.specs.declared.End.{End}
 pub use Rattle.sheet.specs.declared.End.the-variants.{Halted, Spent, Refused as EndRefused, Loads}
 pub use Rattle.latch.specs.declared.MemWb.{MemWb}
-pub use Rattle.pipeline.specs.declared.Stages.{Stages}
+pub use Rattle.stages.specs.declared.Stages.{Stages}
 pub use Rattle.runs.specs.declared.Ran.{Ran}

@@ -10,9 +10,6 @@ use native.Mathlib.Omega.{arith}
 use Rattle.isa.proofs.Bools.{split}
 use Rattle.isa.specs.Machine.{Source}
 use Rattle.pipeline.specs.Advance.{next}
-use Rattle.pipeline.specs.Ask.{wantLoad}
-use Rattle.pipeline.specs.Counting.{counterFull}
-use Rattle.pipeline.specs.Refusals.{faulty, outOfBounds}
 use Rattle.pipeline.specs.Tick.{moved, taken, tick}
 use Rattle.pipeline.specs.Turn.{reply}
 use Rattle.runs.proofs.Plays.{play-ends, play-goes, play-last}
@@ -23,6 +20,9 @@ use Rattle.sheet.proofs.Fair.{Fair}
 use Rattle.sheet.proofs.Limit.{limited}
 use Rattle.sheet.specs.Sheet.{limitedCode}
 use Rattle.sheet.specs.Turns.{turnBy, usedAfter}
+use Rattle.stages.specs.Counting.{counterFull}
+use Rattle.stages.specs.Loads.{wantLoad}
+use Rattle.stages.specs.Refusals.{faulty, outOfBounds}
 use Rattle.runner.specs.Inner.{Holds, Ready, later}
 use Rattle.runner.specs.Names.{End, Ends, Given, PipelineCpu, Ticks, Turn}
 

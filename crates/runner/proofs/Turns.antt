@@ -8,13 +8,14 @@ use Rattle.isa.specs.Inquiries.{lookUp}
 use Rattle.isa.specs.Machine.{Source}
 use Rattle.pipeline.proofs.Running.{fetch-at, no-fetch, no-special, plan-next, wait-next, want-fetch, want-special}
 use Rattle.pipeline.specs.Advance.{next}
-use Rattle.pipeline.specs.Ask.{fetchAt, wantFetch, wantLoad, wantSpecial}
-use Rattle.pipeline.specs.Counting.{countRetired, counted, unlessFull}
+use Rattle.pipeline.specs.Ask.{fetchAt, wantFetch, wantSpecial}
 use Rattle.pipeline.specs.Inner.{Retired}
-use Rattle.pipeline.specs.Move.{waitsOn}
-use Rattle.pipeline.specs.Plans.{advancePlan, planOf, waited}
 use Rattle.pipeline.specs.Tick.{rawOf, taken, wordIn}
 use Rattle.pipeline.specs.Turn.{reply}
+use Rattle.stages.specs.Counting.{countRetired, counted, unlessFull}
+use Rattle.stages.specs.Loads.{wantLoad}
+use Rattle.stages.specs.Move.{waitsOn}
+use Rattle.stages.specs.Plans.{advancePlan, planOf, waited}
 use Rattle.runner.specs.Inner.{offeredBy, unoffered}
 use Rattle.runner.specs.Names.{Counters, PipelineCpu, Plan, Stages, Taken, Unsaid, keepWaiting}
 

@@ -6,10 +6,10 @@ use mathlib.Core.List.{List}
 use mathlib.Core.Path.{_≡_}
 use Rattle.isa.specs.Inquiries.{lookUp}
 use Rattle.isa.specs.Machine.{Source}
-use Rattle.pipeline.specs.Plans.{planFetches}
-use Rattle.pipeline.specs.Refusals.{outOfBounds}
 use Rattle.runs.specs.Run.{Played, play, reported}
 use Rattle.sheet.specs.Sheet.{sheetCode}
+use Rattle.stages.specs.Plans.{planFetches}
+use Rattle.stages.specs.Refusals.{outOfBounds}
 use Rattle.runner.specs.Names.{Counters, End, Nop, PipelineCpu, Plan, Ran, RawNormal, Special, Stages, Taken}
 
 -- what is reported where t ticks were done before

@@ -6,11 +6,11 @@ pub use Rattle.isa.specs.declared.Special.the-variants.{None as Unsaid}
 pub use Rattle.sheet.specs.declared.End.{End}
 pub use Rattle.sheet.specs.declared.Turn.{Turn}
 pub use Rattle.sheet.specs.declared.Turn.the-variants.{Ends, Ticks}
+pub use Rattle.stages.specs.declared.Taken.{Taken}
+pub use Rattle.stages.specs.declared.Move.the-variants.{KeepWaiting as keepWaiting}
+pub use Rattle.stages.specs.declared.Stages.{Stages}
+pub use Rattle.stages.specs.declared.Counters.{Counters}
+pub use Rattle.stages.specs.declared.Plan.{Plan}
 pub use Rattle.pipeline.specs.declared.PipelineCpu.{PipelineCpu}
 pub use Rattle.pipeline.specs.declared.Given.{Given}
-pub use Rattle.pipeline.specs.declared.Taken.{Taken}
-pub use Rattle.pipeline.specs.declared.Move.the-variants.{KeepWaiting as keepWaiting}
-pub use Rattle.pipeline.specs.declared.Stages.{Stages}
-pub use Rattle.pipeline.specs.declared.Counters.{Counters}
-pub use Rattle.pipeline.specs.declared.Plan.{Plan}
 pub use Rattle.runs.specs.declared.Ran.{Ran}

@@ -7,21 +7,16 @@
 ghost use mathlib.Core.Bool.{cond};
 ghost use mathlib.Core.Path.{_≡_};
 ghost use lib.ListN.{getD};
-ghost use Rattle.pipeline.specs.Ask.{wantLoad};
 ghost use Rattle.runs.specs.Run.{play, ran, reported, runCode, turnOf};
 ghost use Rattle.sheet.specs.Sheet.{sheetSource};
 ghost use Rattle.sheet.specs.Turns.{usedAfter};
+ghost use Rattle.stages.specs.Loads.{wantLoad};
 ghost use Rattle.runner.specs.Inner.{Ready, offeredBy, ranTo, unoffered};
 use isa::Instruction;
 use isa::RawInstr;
 use isa::Special;
 use isa::registers::sel;
-use pipeline::Counters;
-use pipeline::Move;
 use pipeline::PipelineCpu;
-use pipeline::Plan;
-use pipeline::Stages;
-use pipeline::Taken;
 use runs::Ran;
 use sheet::End;
 use sheet::Turn;
@@ -31,6 +26,11 @@ use sheet::check::check_limited;
 use sheet::offer::offer_at;
 use sheet::specials::special_at;
 use sheet::turns::turn_by;
+use stages::Counters;
+use stages::Move;
+use stages::Plan;
+use stages::Stages;
+use stages::Taken;
 
 // The answer that a tick takes in: the next one where it loads.
 fn answer_for(s: Stages, answers: &[u32], k: usize) -> u32

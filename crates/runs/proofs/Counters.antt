@@ -5,11 +5,12 @@ use mathlib.Core.Bool.{Bool, cond, false, true}
 use mathlib.Core.Path.{_≡_}
 use native.Mathlib.Omega.{arith}
 use Rattle.accuracy.proofs.Sense.{bit-le}
-use Rattle.pipeline.specs.Advance.{advance, awake, next, resting}
-use Rattle.pipeline.specs.Counting.{countIdle, countRetired, counted, counterFull, flushes, isFull, stalls}
-use Rattle.pipeline.specs.Move.{moveOf}
-use Rattle.pipeline.specs.Retire.{retire, retireStages}
+use Rattle.pipeline.specs.Advance.{advance, moveOf, next, resting}
+use Rattle.pipeline.specs.Retire.{retire}
 use Rattle.pipeline.specs.Start.{fresh}
+use Rattle.stages.specs.Advance.{awake}
+use Rattle.stages.specs.Counting.{countIdle, countRetired, counted, counterFull, flushes, isFull, stalls}
+use Rattle.stages.specs.Retire.{retireStages}
 use Rattle.runs.specs.Names.{Move, PipelineCpu, Start, Taken}
 
 -- every counter of s is at most t

@@ -12,10 +12,10 @@ use Rattle.accuracy.proofs.Timing.{due-time, time-path}
 use Rattle.accuracy.specs.Accuracy.{Run, begin, oneBy}
 use Rattle.accuracy.specs.Count.{path, retireTick}
 use Rattle.isa.specs.Machine.{Arch, Program, Source, archWith, first, isEmpty, machine, programOf}
-use Rattle.pipeline.specs.Ask.{wantLoad}
 use Rattle.pipeline.specs.Start.{fresh}
 use Rattle.pipeline.specs.Tick.{Result, moved, refused, tick}
 use Rattle.pipeline.specs.Turn.{reply}
+use Rattle.stages.specs.Loads.{wantLoad}
 use Rattle.runs.proofs.Plays.{play-stopped}
 use Rattle.runs.proofs.Ticks.{feeds, meets}
 use Rattle.runs.proofs.Turns.{turn-load, turn-rests}

@@ -19,11 +19,11 @@ use Rattle.isa.proofs.Bools.{split}
 use Rattle.isa.proofs.Machine.{did-next}
 use Rattle.isa.specs.Machine.{Arch, Program, Source, archWith, first, machine, programOf}
 use Rattle.pipeline.specs.Advance.{next}
-use Rattle.pipeline.specs.Refusals.{outOfBounds}
 use Rattle.pipeline.specs.Start.{fresh}
 use Rattle.pipeline.specs.Tick.{moved, taken}
 use Rattle.pipeline.specs.Turn.{reply}
 use Rattle.sheet.proofs.Fair.{Fair}
+use Rattle.stages.specs.Refusals.{outOfBounds}
 use Rattle.runs.proofs.Counters.{Low, fresh-low, low-room, next-low}
 use Rattle.runs.proofs.Due.{due-mono, live-late}
 use Rattle.runs.proofs.Plays.{play-goes, play-stopped}

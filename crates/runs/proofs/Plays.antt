@@ -4,11 +4,11 @@ use mathlib.Core.Bool.{Bool, cond, false, true}
 use mathlib.Core.List.{List}
 use mathlib.Core.Path.{_≡_, ap}
 use Rattle.isa.specs.Machine.{Source, first, isEmpty}
-use Rattle.pipeline.specs.Counting.{counterFull}
-use Rattle.pipeline.specs.Refusals.{faulty}
 use Rattle.pipeline.specs.Tick.{moved, tick}
 use Rattle.pipeline.specs.Turn.{reply}
 use Rattle.sheet.specs.Turns.{turnBy}
+use Rattle.stages.specs.Counting.{counterFull}
+use Rattle.stages.specs.Refusals.{faulty}
 use Rattle.runs.specs.Names.{End, Ends, Halted, PipelineCpu, Spent, Ticks}
 use Rattle.runs.specs.Run.{ended, leftAfter, more, play, playBy, turnOf}
 

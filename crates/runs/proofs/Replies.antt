@@ -8,12 +8,13 @@ use Rattle.isa.specs.Inquiries.{isInquiry, isSaid, lookUp}
 use Rattle.isa.specs.Machine.{Source}
 use Rattle.isa.specs.Refusals.{isOf, rawCode}
 use Rattle.pipeline.specs.Advance.{next}
-use Rattle.pipeline.specs.Ask.{fetchAt, wantFetch, wantLoad, wantSpecial}
-use Rattle.pipeline.specs.Counting.{counterFull}
-use Rattle.pipeline.specs.Refusals.{faulty, outOfBounds}
+use Rattle.pipeline.specs.Ask.{fetchAt, wantFetch, wantSpecial}
 use Rattle.pipeline.specs.Tick.{fitsOffer, fitsSpecial, isAnswer, moved, offerCode, same, taken, tick}
 use Rattle.pipeline.specs.Turn.{reply}
 use Rattle.sheet.proofs.Fair.{Fair}
+use Rattle.stages.specs.Counting.{counterFull}
+use Rattle.stages.specs.Loads.{wantLoad}
+use Rattle.stages.specs.Refusals.{faulty, outOfBounds}
 use Rattle.runs.specs.Names.{Inquiry, Instr, Mode, NoAnswer, NoInquiry, Nothing, Of, PipelineCpu, RawInstr}
 use Rattle.runs.specs.Names.{Special, Word}
 

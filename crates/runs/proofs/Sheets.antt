@@ -8,10 +8,10 @@ use mathlib.Core.Path.{_≡_}
 use native.Mathlib.Omega.{arith}
 use Rattle.accuracy.proofs.Bounds.{fresh-in}
 use Rattle.isa.proofs.Bools.{split}
-use Rattle.pipeline.specs.Refusals.{outOfBounds}
 use Rattle.pipeline.specs.Start.{fresh}
 use Rattle.sheet.proofs.Fair.{sheet-fair}
 use Rattle.sheet.specs.Sheet.{limitedCode, sheetCode, sheetSource}
+use Rattle.stages.specs.Refusals.{outOfBounds}
 use Rattle.runs.proofs.Halted.{run-halted}
 use Rattle.runs.proofs.Halts.{run-halts}
 use Rattle.runs.specs.Claims.{SheetHalted, SheetHalts}

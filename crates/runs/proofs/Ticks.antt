@@ -12,9 +12,9 @@ use Rattle.accuracy.proofs.Offers.{AllMeet, Meets, reply-offer, reply-special}
 use Rattle.accuracy.specs.Accuracy.{Run, after, begin, one, oneBy}
 use Rattle.isa.specs.Machine.{Program, Source, first, isEmpty, programOf, zeroStart}
 use Rattle.pipeline.specs.Advance.{next}
-use Rattle.pipeline.specs.Ask.{wantLoad}
 use Rattle.pipeline.specs.Tick.{Result, moved, refused, tick, wordIn}
 use Rattle.pipeline.specs.Turn.{reply}
+use Rattle.stages.specs.Loads.{wantLoad}
 use Rattle.runs.proofs.Turns.{turn-load}
 use Rattle.runs.specs.Claims.{RanTicks, RunRetires, RunTicks}
 use Rattle.runs.specs.Names.{End, Ends, NoAnswer, PipelineCpu, Start, Ticks, Turn, Word}

@@ -5,10 +5,10 @@ use mathlib.Core.List.{List}
 use mathlib.Core.Path.{_≡_, refl}
 use Rattle.isa.proofs.Bools.{and-r, split}
 use Rattle.isa.specs.Machine.{isEmpty}
-use Rattle.pipeline.specs.Ask.{wantLoad}
-use Rattle.pipeline.specs.Counting.{counterFull}
-use Rattle.pipeline.specs.Refusals.{faulty}
 use Rattle.sheet.specs.Turns.{turnBy}
+use Rattle.stages.specs.Counting.{counterFull}
+use Rattle.stages.specs.Loads.{wantLoad}
+use Rattle.stages.specs.Refusals.{faulty}
 use Rattle.runs.specs.Names.{Ends, Halted, PipelineCpu, Ticks}
 use Rattle.runs.specs.Run.{turnOf}
 

@@ -17,11 +17,12 @@ use Rattle.latch.specs.Execute.{exMemOf}
 use Rattle.latch.specs.Latches.{emptyExMem, emptyMemWb}
 use Rattle.latch.specs.Memory.{loads, memWbOf, passedOn}
 use Rattle.latch.specs.Retire.{halts, isFaulty}
-use Rattle.pipeline.specs.Advance.{awake}
-use Rattle.pipeline.specs.Ask.{loadsIn, wantLoad}
-use Rattle.pipeline.specs.Counting.{countRetired}
-use Rattle.pipeline.specs.Refusals.{faulty}
-use Rattle.pipeline.specs.Retire.{retire, retireStages}
+use Rattle.pipeline.specs.Retire.{retire}
+use Rattle.stages.specs.Advance.{awake}
+use Rattle.stages.specs.Counting.{countRetired}
+use Rattle.stages.specs.Loads.{loadsIn, wantLoad}
+use Rattle.stages.specs.Refusals.{faulty}
+use Rattle.stages.specs.Retire.{retireStages}
 use Rattle.runs.specs.Names.{ExMem, MemWb, PipelineCpu, Request}
 
 -- a load left after retirement is EX/MEM's, and no HALT has retired

@@ -17,15 +17,17 @@ use Rattle.latch.specs.Decode.{decodePredicted, idExBy, idExOf}
 use Rattle.latch.specs.Execute.{effectFrom, effectIn}
 use Rattle.latch.specs.Latches.{cleared, emptyIdEx}
 use Rattle.latch.specs.Retire.{halts}
-use Rattle.pipeline.specs.Advance.{advance, advanceBy, advanceStages, awake, idExAfter, ifIdAfter, next, resting}
+use Rattle.pipeline.specs.Advance.{advance, moveOf, next, resting}
 use Rattle.pipeline.specs.Ask.{fetchAt, wantFetch, wantSpecial}
-use Rattle.pipeline.specs.Execute.{effectFor, inquiryBy, inquiryOf}
-use Rattle.pipeline.specs.Fetch.{fetched, nextIdEx}
-use Rattle.pipeline.specs.Move.{inquiryIn, isWait, moveOf}
-use Rattle.pipeline.specs.Retire.{retire, retireStages}
+use Rattle.pipeline.specs.Retire.{retire}
 use Rattle.pipeline.specs.Tick.{Result, moved, rawOf, refused, taken, tick}
 use Rattle.pipeline.specs.Turn.{reply}
 use Rattle.sheet.specs.Sheet.{sheetSource}
+use Rattle.stages.specs.Advance.{advanceBy, advanceStages, awake, idExAfter, ifIdAfter}
+use Rattle.stages.specs.Execute.{effectFor, inquiryBy, inquiryOf}
+use Rattle.stages.specs.Fetch.{fetched, nextIdEx}
+use Rattle.stages.specs.Move.{inquiryIn, isWait}
+use Rattle.stages.specs.Retire.{retireStages}
 use Rattle.runs.specs.Claims.{AnyTable, Unasked, Without}
 use Rattle.runs.specs.Names.{DecNormal, Ends, Given, IdEx, IfId, Inquiry, Mode, Move}
 use Rattle.runs.specs.Names.{NoInquiry, Nop, PipelineCpu, Place, RawInstr, Special, Stages}

@@ -18,16 +18,16 @@ pub use Rattle.latch.specs.declared.IfId.{IfId}
 pub use Rattle.latch.specs.declared.IdEx.{IdEx}
 pub use Rattle.latch.specs.declared.ExMem.{ExMem}
 pub use Rattle.latch.specs.declared.MemWb.{MemWb}
+pub use Rattle.stages.specs.declared.Taken.{Taken}
+pub use Rattle.stages.specs.declared.Move.{Move}
+pub use Rattle.stages.specs.declared.Move.the-variants.{KeepWaiting as keepWaiting, BeginWait as beginWait}
+pub use Rattle.stages.specs.declared.Move.the-variants.{LoadUseStall as loadUseStall, Proceed as proceed}
+pub use Rattle.stages.specs.declared.Move.the-variants.{Redirect as redirect}
+pub use Rattle.stages.specs.declared.Place.{Place}
+pub use Rattle.stages.specs.declared.Stages.{Stages}
+pub use Rattle.stages.specs.declared.Counters.{Counters}
 pub use Rattle.pipeline.specs.declared.PipelineCpu.{PipelineCpu}
 pub use Rattle.pipeline.specs.declared.Offer.the-variants.{Nothing, Instr}
 pub use Rattle.pipeline.specs.declared.Answer.the-variants.{None as NoAnswer, Word}
 pub use Rattle.pipeline.specs.declared.Given.{Given}
-pub use Rattle.pipeline.specs.declared.Taken.{Taken}
-pub use Rattle.pipeline.specs.declared.Move.{Move}
-pub use Rattle.pipeline.specs.declared.Move.the-variants.{KeepWaiting as keepWaiting, BeginWait as beginWait}
-pub use Rattle.pipeline.specs.declared.Move.the-variants.{LoadUseStall as loadUseStall, Proceed as proceed}
-pub use Rattle.pipeline.specs.declared.Move.the-variants.{Redirect as redirect}
-pub use Rattle.pipeline.specs.declared.Place.{Place}
-pub use Rattle.pipeline.specs.declared.Stages.{Stages}
-pub use Rattle.pipeline.specs.declared.Counters.{Counters}
 pub use Rattle.runs.specs.declared.Ran.{Ran}

@@ -5,13 +5,13 @@ use lib.ListN.{length}
 use mathlib.Core.Bool.{Bool, _&&_, cond, false}
 use mathlib.Core.List.{List, [], _∷_}
 use Rattle.isa.specs.Machine.{Source, first, isEmpty, rest}
-use Rattle.pipeline.specs.Ask.{wantLoad}
-use Rattle.pipeline.specs.Counting.{counterFull}
-use Rattle.pipeline.specs.Refusals.{faulty, outOfBounds}
 use Rattle.pipeline.specs.Tick.{Result, moved, refused, tick}
 use Rattle.pipeline.specs.Turn.{reply}
 use Rattle.sheet.specs.Sheet.{limitedCode, sheetSource}
 use Rattle.sheet.specs.Turns.{turnBy}
+use Rattle.stages.specs.Counting.{counterFull}
+use Rattle.stages.specs.Loads.{wantLoad}
+use Rattle.stages.specs.Refusals.{faulty, outOfBounds}
 use Rattle.runs.specs.Names.{Counters, End, EndRefused, Ends, Given, Halted, PipelineCpu, Ran, Spent, Stages}
 use Rattle.runs.specs.Names.{Ticks, Turn}
 

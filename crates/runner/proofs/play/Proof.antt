@@ -3,9 +3,9 @@ use borrow.Author.Needs.{needs}
 use Prim.Native.Nat.{_-_, suc}
 use mathlib.Core.Path.{_∙_, sym}
 use native.Mathlib.Omega.{arith}
-use Rattle.pipeline.specs.Advance.{awake}
 use Rattle.sheet.proofs.Fair.{sheet-fair}
 use Rattle.sheet.specs.Sheet.{sheetSource}
+use Rattle.stages.specs.Advance.{awake}
 use Rattle.runner.proofs.Loop.{begins, ends, goes}
 use Rattle.runner.proofs.Turns.{turn-moves, turn-waits}
 use Rattle.runner.specs.Inner.{Holds, ranTo}

@@ -1,8 +1,8 @@
 -- `pipeline::PipelineCpu::execute_ex` meets its contract. Assumes nothing.
 use borrow.Author.Needs.{needs}
 use mathlib.Core.Path.{sym}
-use Rattle.pipeline.specs.Execute.{effectFor}
-use Rattle.pipeline.specs.Forwarding.{originsFor}
+use Rattle.stages.specs.Execute.{effectFor}
+use Rattle.stages.specs.Forwarding.{originsFor}
 use Rattle.pipeline.specs.Parts.{executePart}
 use Rattle.pipeline.proofs.PipelineCpu.execute_ex.Statement.{statement}
 use Rattle.pipeline.proofs.PipelineCpu.execute_ex.Tie as tie

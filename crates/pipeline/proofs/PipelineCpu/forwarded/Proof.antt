@@ -1,7 +1,7 @@
 -- `pipeline::PipelineCpu::forwarded` meets its contract. Assumes nothing.
 use borrow.Author.Needs.{needs}
 use mathlib.Core.Path.{sym}
-use Rattle.pipeline.specs.Forwarding.{forwarded, originOf}
+use Rattle.stages.specs.Forwarding.{forwarded, originOf}
 use Rattle.pipeline.specs.Parts.{forwardedPart}
 use Rattle.pipeline.proofs.PipelineCpu.forwarded.Statement.{statement}
 use Rattle.pipeline.proofs.PipelineCpu.forwarded.Tie as tie

@@ -2,8 +2,8 @@
 use borrow.Author.Needs.{needs}
 use borrow.Author.Tests.{le-ltb, lt-ltb}
 use mathlib.Core.Path.{_∙_}
+use Rattle.stages.specs.Counting.{unlessFull}
 use Rattle.pipeline.proofs.Refusing.{retire-passes, retire-refuses, state-room}
-use Rattle.pipeline.specs.Counting.{unlessFull}
 use Rattle.pipeline.specs.Inner.{acceptedWith}
 use Rattle.pipeline.specs.Retire.{retire}
 use Rattle.pipeline.proofs.PipelineCpu.retire.Statement.{statement}

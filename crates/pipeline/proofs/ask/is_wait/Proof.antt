@@ -1,6 +1,6 @@
 -- `pipeline::ask::is_wait` meets its contract. Assumes nothing.
 use borrow.Author.Needs.{needs}
-use Rattle.pipeline.specs.Move.{isWait}
+use Rattle.stages.specs.Move.{isWait}
 use Rattle.pipeline.proofs.ask.is_wait.Statement.{statement}
 use Rattle.pipeline.proofs.ask.is_wait.Tie as tie
 

@@ -1,8 +1,8 @@
 -- `pipeline::ask::origins_in` meets its contract. Assumes nothing.
 use borrow.Author.Needs.{needs}
 use mathlib.Core.Path.{sym}
-use Rattle.pipeline.specs.Forwarding.{originsFor}
-use Rattle.pipeline.specs.Move.{originsIn}
+use Rattle.stages.specs.Forwarding.{originsFor}
+use Rattle.pipeline.specs.Ask.{originsIn}
 use Rattle.pipeline.proofs.ask.origins_in.Statement.{statement}
 use Rattle.pipeline.proofs.ask.origins_in.Tie as tie
 

@@ -1,0 +1,3 @@
+pub mod Full
+pub mod Loads
+pub mod Moves

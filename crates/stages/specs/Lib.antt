@@ -1,0 +1,12 @@
+pub mod Names
+pub mod Forwarding
+pub mod Execute
+pub mod Counting
+pub mod Retire
+pub mod Move
+pub mod Fetch
+pub mod Advance
+pub mod Plans
+pub mod Refusals
+pub mod Loads
+pub mod Inner
