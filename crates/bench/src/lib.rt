@@ -1,6 +1,8 @@
 // The numbers that the programs of the bench are given.
 //
 // Wrong programs that the promise of `number` rules out: the low byte first; a byte past the end taken for 255.
+#![tactic(auto)]
+
 ghost use Rattle.std.specs.Prelude.{◌≡◌, slice_index};
 ghost use Rattle.bench.specs.Number.{joined, number_at};
 
@@ -15,6 +17,7 @@ fn byte(buf: &[u8], k: usize) -> u8
 }
 
 // Four bytes as a number, high byte first.
+#[tactic(auto, unfolding(crate::specs::Number::joined))]
 fn joined(a: u8, b: u8, c: u8, d: u8) -> u32
     ensures { result ≡ joined a b c d }
 {
@@ -22,6 +25,7 @@ fn joined(a: u8, b: u8, c: u8, d: u8) -> u32
 }
 
 // The number of the four bytes from `at` on, high byte first.
+#[tactic(auto, unfolding(crate::specs::Number::number_at))]
 pub fn number(buf: &[u8], at: u32) -> u32
     ensures { result ≡ number_at buf.now at }
 {

@@ -1,4 +1,6 @@
 // Reads case lines from standard input and writes what the proved functions answer, a line for each.
+#![tactic(auto)]
+
 mod answer;
 mod asked;
 mod build;

@@ -7,6 +7,7 @@ use crate::Dest;
 
 impl Dest {
     // Whether the destination is register `r`.
+    #[tactic(auto, unfolding(crate::specs::Registers::is_dest))]
     pub fn is(self, r: u8) -> bool
         ensures { result ≡ is_dest self r }
     {
@@ -17,6 +18,7 @@ impl Dest {
     }
 
     // Whether a destination is named.
+    #[tactic(auto, unfolding(crate::specs::Registers::is_named))]
     pub fn is_named(self) -> bool
         ensures { result ≡ is_named self }
     {
@@ -27,6 +29,7 @@ impl Dest {
     }
 
     // Whether the destination, if there is one, is below 32.
+    #[tactic(auto, unfolding(crate::specs::Operands::ok_dest))]
     pub fn in_bounds(self) -> bool
         ensures { result ≡ ok_dest self }
     {

@@ -13,6 +13,7 @@ use crate::{
 };
 
 // The word `v` for the destination; `always`: asked for even where no destination is named.
+#[tactic(auto, unfolding(crate::specs::Effect::written))]
 fn written(v: u32, always: bool) -> AluResult
     ensures { result ≡ written v always }
 {
@@ -24,6 +25,7 @@ fn written(v: u32, always: bool) -> AluResult
 }
 
 // No word for a destination.
+#[tactic(auto, unfolding(crate::specs::Effect::no_result))]
 fn no_result() -> AluResult
     ensures { result ≡ no_result }
 {
@@ -35,6 +37,7 @@ fn no_result() -> AluResult
 }
 
 // Nothing asked of the memory.
+#[tactic(auto, unfolding(crate::specs::Effect::no_access))]
 fn no_access() -> Access
     ensures { result ≡ no_access }
 {
@@ -47,6 +50,7 @@ fn no_access() -> Access
 }
 
 // Nothing left to the retirement.
+#[tactic(auto, unfolding(crate::specs::Effect::no_marks))]
 fn no_marks() -> Marks
     ensures { result ≡ no_marks }
 {
@@ -60,6 +64,7 @@ fn no_marks() -> Marks
 }
 
 // A result and an access, and on to the next address.
+#[tactic(auto, unfolding(crate::specs::Effect::goes_on))]
 fn goes_on(alu: AluResult, access: Access) -> Effect
     ensures { result ≡ goes_on alu access }
 {
@@ -74,6 +79,7 @@ fn goes_on(alu: AluResult, access: Access) -> Effect
 }
 
 // A result, and the way `redirect`; `n`: the mode that it changes to.
+#[tactic(auto, unfolding(crate::specs::Effect::goes_by))]
 fn goes_by(alu: AluResult, redirect: Redirect, n: NewMode) -> Effect
     ensures { result ≡ goes_by alu redirect n }
 {
@@ -88,6 +94,7 @@ fn goes_by(alu: AluResult, redirect: Redirect, n: NewMode) -> Effect
 }
 
 // Nothing but marks.
+#[tactic(auto, unfolding(crate::specs::Effect::marked))]
 fn marked(marks: Marks) -> Effect
     ensures { result ≡ marked marks }
 {
@@ -102,6 +109,7 @@ fn marked(marks: Marks) -> Effect
 }
 
 // NOP.
+#[tactic(auto, unfolding(crate::specs::Effect::nothing))]
 fn nothing() -> Effect
     ensures { result ≡ nothing }
 {
@@ -109,6 +117,7 @@ fn nothing() -> Effect
 }
 
 // The destination gets `v`.
+#[tactic(auto, unfolding(crate::specs::Effect::gives))]
 pub(crate) fn gives(v: u32) -> Effect
     ensures { result ≡ gives v }
 {
@@ -116,6 +125,7 @@ pub(crate) fn gives(v: u32) -> Effect
 }
 
 // A load (`l`) of width `w` at address `a`, or a store of `v` there.
+#[tactic(auto, unfolding(crate::specs::Effect::reaches))]
 fn reaches(l: bool, w: u8, a: u32, v: u32) -> Effect
     ensures { result ≡ reaches l w a v }
 {
@@ -134,6 +144,7 @@ fn reaches(l: bool, w: u8, a: u32, v: u32) -> Effect
 }
 
 // A conditional branch by offset `o` from `n`, where `c` holds.
+#[tactic(auto, unfolding(crate::specs::Effect::branches))]
 fn branches(c: bool, n: u32, o: i16, m: Mode) -> Effect
     ensures { result ≡ branches c (offset32 n o) m }
 {
@@ -142,6 +153,7 @@ fn branches(c: bool, n: u32, o: i16, m: Mode) -> Effect
 }
 
 // A jump to `q` in mode `m`; `n`: the mode that it changes to.
+#[tactic(auto, unfolding(crate::specs::Effect::jumps))]
 fn jumps(q: u32, m: Mode, n: NewMode) -> Effect
     ensures { result ≡ jumps q m n }
 {
@@ -149,6 +161,7 @@ fn jumps(q: u32, m: Mode, n: NewMode) -> Effect
 }
 
 // A jump that leaves the address `v` of the next instruction.
+#[tactic(auto, unfolding(crate::specs::Effect::links))]
 fn links(v: u32, q: u32, m: Mode, n: NewMode) -> Effect
     ensures { result ≡ links v q m n }
 {
@@ -156,6 +169,7 @@ fn links(v: u32, q: u32, m: Mode, n: NewMode) -> Effect
 }
 
 // HALT.
+#[tactic(auto, unfolding(crate::specs::Effect::stops, crate::specs::Effect::no_marks))]
 fn stops() -> Effect
     ensures { result ≡ stops }
 {
@@ -165,6 +179,7 @@ fn stops() -> Effect
 }
 
 // IRET.
+#[tactic(auto, unfolding(crate::specs::Effect::resumes, crate::specs::Effect::no_marks))]
 fn resumes() -> Effect
     ensures { result ≡ resumes }
 {
@@ -174,6 +189,7 @@ fn resumes() -> Effect
 }
 
 // CPUID.
+#[tactic(auto, unfolding(crate::specs::Effect::identifies, crate::specs::Effect::no_marks))]
 fn identifies() -> Effect
     ensures { result ≡ identifies }
 {
@@ -183,6 +199,7 @@ fn identifies() -> Effect
 }
 
 // An exception.
+#[tactic(auto, unfolding(crate::specs::Effect::raises))]
 pub fn raises(e: Exception) -> Effect
     ensures { result ≡ raises e }
 {
@@ -196,6 +213,7 @@ pub fn raises(e: Exception) -> Effect
 }
 
 // MTSR: word `v` for special register `sr`.
+#[tactic(auto, unfolding(crate::specs::Effect::sets))]
 fn sets(sr: u16, v: u32) -> Effect
     ensures { result ≡ sets sr v }
 {
@@ -209,6 +227,7 @@ fn sets(sr: u16, v: u32) -> Effect
 }
 
 // MFSR: the word of special register `sr` is asked for, and nothing else is done.
+#[tactic(auto, unfolding(crate::specs::Effect::inquires))]
 fn inquires(sr: u16) -> Effect
     ensures { result ≡ inquires sr }
 {
@@ -223,6 +242,7 @@ fn inquires(sr: u16) -> Effect
 }
 
 // In user mode a privileged instruction raises an exception.
+#[tactic(auto, unfolding(crate::specs::Effect::privileged))]
 fn privileged(user: bool, e: Effect) -> Effect
     ensures { result ≡ privileged user e }
 {
@@ -234,6 +254,7 @@ fn privileged(user: bool, e: Effect) -> Effect
 
 impl Instruction {
     // `n` is the address after the instruction.
+    #[tactic(auto, unfolding(crate::specs::Effect::effect_n))]
     fn effect(self, user: bool, n: u32, a: u32, b: u32) -> Effect
         ensures { result ≡ effect_n user self n a b }
     {
@@ -305,6 +326,7 @@ impl Instruction {
 
 impl ShortInstruction {
     // `n` is the address after the instruction.
+    #[tactic(auto, unfolding(crate::specs::Effect::effect_s))]
     fn effect(self, n: u32, a: u32, b: u32) -> Effect
         ensures { result ≡ effect_s self n a b }
     {
@@ -337,6 +359,7 @@ impl ShortInstruction {
 
 impl Decoded {
     // Result, request, redirect and exception, for the instruction at `pc`.
+    #[tactic(auto, unfolding(crate::specs::Effect::effect_of))]
     pub fn effect(self, user: bool, pc: u32, a: u32, b: u32) -> Effect
         ensures { result ≡ effect_of user self pc a b }
     {

@@ -6,6 +6,7 @@ use crate::{Exception, Mtsr};
 
 impl Exception {
     // Whether there is one.
+    #[tactic(auto, unfolding(crate::specs::Redirects::is_exception))]
     pub fn is_some(self) -> bool
         ensures { result ≡ is_exception self }
     {
@@ -20,6 +21,7 @@ impl Exception {
 
 impl Mtsr {
     // Whether a special register is written.
+    #[tactic(auto, unfolding(crate::specs::Redirects::is_mtsr))]
     pub fn is_some(self) -> bool
         ensures { result ≡ is_mtsr self }
     {

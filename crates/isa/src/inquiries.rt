@@ -7,6 +7,7 @@ use crate::{Effect, Exception, Inquiry, Special};
 
 impl Inquiry {
     // Whether a special register is asked for.
+    #[tactic(auto, unfolding(crate::specs::Inquiries::is_inquiry))]
     pub fn is_some(self) -> bool
         ensures { result ≡ is_inquiry self }
     {
@@ -19,6 +20,7 @@ impl Inquiry {
 
 impl Special {
     // Whether something is said.
+    #[tactic(auto, unfolding(crate::specs::Inquiries::is_said))]
     pub fn is_some(self) -> bool
         ensures { result ≡ is_said self }
     {
@@ -30,6 +32,7 @@ impl Special {
     }
 
     // What MFSR does with it.
+    #[tactic(auto, unfolding(crate::specs::Inquiries::mfsr_with))]
     pub fn effect(self) -> Effect
         ensures { result ≡ mfsr_with self }
     {
@@ -43,6 +46,7 @@ impl Special {
 
 impl Effect {
     // The effect with what is said of the special register that it asks for.
+    #[tactic(auto, unfolding(crate::specs::Inquiries::fill))]
     pub fn filled(self, special: Special) -> Effect
         ensures { result ≡ fill special self }
     {

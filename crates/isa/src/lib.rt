@@ -38,6 +38,8 @@
 // - raises: an exception that leaves `writes` set; no exception for SYSCALL 0.
 // - Mode::size: 4 for Short; 2 for Normal.
 // - Mode::fall: 4 added in Short mode; a sum that stops at FFFFFFFF.
+#![tactic(auto)]
+
 mod destinations;
 pub mod effect_table;
 mod encoding;
@@ -54,14 +56,14 @@ mod starts;
 mod waits;
 
 // The mode of an instruction: 4 bytes long, or 2.
-#[derive(Drop)]
+#[derive(Clone, Copy)]
 pub enum Mode {
     Normal,
     Short,
 }
 
 // What a program starts with: registers, address, mode, whether it runs in user mode, the feature word.
-#[derive(Drop)]
+#[derive(Clone, Copy)]
 pub struct Start {
     pub reg: [u32; 32],
     pub pc: u32,
@@ -71,7 +73,7 @@ pub struct Start {
 }
 
 // A Normal instruction. Unknown holds the high and the low half of its word.
-#[derive(Drop)]
+#[derive(Clone, Copy)]
 pub enum Instruction {
     Nop,
     Ld { rd: u8, base: u8, offset: i16 },
@@ -130,7 +132,7 @@ impl Instruction {
 }
 
 // A Short instruction. Its register numbers are those of the halfword: 15 means R31.
-#[derive(Drop)]
+#[derive(Clone, Copy)]
 pub enum ShortInstruction {
     Mov { rd: u8, rs1: u8 },
     Add { rd: u8, rs1: u8, rs2: u8 },
@@ -152,42 +154,42 @@ impl ShortInstruction {
 }
 
 // What a fetch brings: a Normal instruction, decoded already, or 16 bits.
-#[derive(Drop)]
+#[derive(Clone, Copy)]
 pub enum RawInstr {
     Normal(Instruction),
     Short(u16),
 }
 
 // A decoded instruction.
-#[derive(Drop)]
+#[derive(Clone, Copy)]
 pub enum Decoded {
     Normal(Instruction),
     Short(ShortInstruction),
 }
 
 // The register that an instruction names as its destination.
-#[derive(Drop)]
+#[derive(Clone, Copy)]
 pub enum Dest {
     None,
     Reg(u8),
 }
 
 // Where an instruction goes: on to the next address, or to a target and its mode.
-#[derive(Drop)]
+#[derive(Clone, Copy)]
 pub enum Redirect {
     Next,
     To(u32, Mode),
 }
 
 // The mode that a jump changes to at its retirement.
-#[derive(Drop)]
+#[derive(Clone, Copy)]
 pub enum NewMode {
     Keep,
     To(Mode),
 }
 
 // What a load or store asks of the memory: address, width in bytes, and a store's word cut to the width.
-#[derive(Drop)]
+#[derive(Clone, Copy)]
 pub enum Request {
     None,
     Load { addr: u32, width: u8 },
@@ -195,7 +197,7 @@ pub enum Request {
 }
 
 // An exception that an instruction raises.
-#[derive(Drop)]
+#[derive(Clone, Copy)]
 pub enum Exception {
     None,
     PrivilegedInstruction,
@@ -204,21 +206,21 @@ pub enum Exception {
 }
 
 // MTSR's special register number and word.
-#[derive(Drop)]
+#[derive(Clone, Copy)]
 pub enum Mtsr {
     None,
     Write(u16, u32),
 }
 
 // The special register that MFSR asks for.
-#[derive(Drop)]
+#[derive(Clone, Copy)]
 pub enum Inquiry {
     None,
     Of(u16),
 }
 
 // What is said of a special register: nothing, that there is no such register, or its word.
-#[derive(Drop)]
+#[derive(Clone, Copy)]
 pub enum Special {
     None,
     NoSuch,
@@ -227,7 +229,7 @@ pub enum Special {
 
 // What an instruction names: its two sources (R0 where it has none), how many, its destination,
 // whether it loads or stores, its latency (0: none), a conditional branch's offset as a word.
-#[derive(Drop)]
+#[derive(Clone, Copy)]
 pub struct Operands {
     pub src_a: u8,
     pub src_b: u8,
@@ -242,7 +244,7 @@ pub struct Operands {
 
 // The word that an instruction computes. `writes`: its destination gets a word;
 // `always_writes`: it asks for the write even where no destination is named.
-#[derive(Drop)]
+#[derive(Clone, Copy)]
 pub struct AluResult {
     pub value: u32,
     pub writes: bool,
@@ -250,7 +252,7 @@ pub struct AluResult {
 }
 
 // What an instruction asks of the memory: address, a store's word, width in bytes (0: no access), and whether it reads.
-#[derive(Drop)]
+#[derive(Clone, Copy)]
 pub struct Access {
     pub mem_addr: u32,
     pub store_value: u32,
@@ -259,7 +261,7 @@ pub struct Access {
 }
 
 // What is left to the retirement: HALT, IRET, CPUID, an exception, MTSR's word.
-#[derive(Drop)]
+#[derive(Clone, Copy)]
 pub struct Marks {
     pub halt: bool,
     pub iret: bool,
@@ -269,7 +271,7 @@ pub struct Marks {
 }
 
 // What an instruction does with two operand values.
-#[derive(Drop)]
+#[derive(Clone, Copy)]
 pub struct Effect {
     pub access: Access,
     pub alu: AluResult,

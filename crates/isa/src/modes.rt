@@ -6,6 +6,7 @@ use crate::{Instruction, Mode, ShortInstruction};
 
 impl Mode {
     // The size of an instruction in bytes.
+    #[tactic(auto, unfolding(crate::specs::Effect::size))]
     pub fn size(self) -> u32
         ensures { result ≡ size self }
     {
@@ -16,6 +17,7 @@ impl Mode {
     }
 
     // The address after the instruction at `pc`.
+    #[tactic(auto, unfolding(crate::specs::Effect::fall))]
     pub fn fall(self, pc: u32) -> u32
         ensures { result ≡ fall pc self }
     {

@@ -7,6 +7,7 @@ use crate::encoding::{short_reg_to_gpr, widen};
 use crate::{Decoded, Dest, Instruction, Operands, ShortInstruction};
 
 // No load, no store and no branch; `n` sources, destination `d`, latency `l`.
+#[tactic(auto, unfolding(crate::specs::Operands::plain))]
 fn plain(a: u8, b: u8, n: u8, d: Dest, l: u8) -> Operands
     ensures { result ≡ plain a b n d l }
 {
@@ -24,6 +25,7 @@ fn plain(a: u8, b: u8, n: u8, d: Dest, l: u8) -> Operands
 }
 
 // No source, no destination.
+#[tactic(auto, unfolding(crate::specs::Operands::bare))]
 fn bare() -> Operands
     ensures { result ≡ bare }
 {
@@ -31,6 +33,7 @@ fn bare() -> Operands
 }
 
 // No source, destination `d`.
+#[tactic(auto, unfolding(crate::specs::Operands::writes))]
 fn writes(d: u8) -> Operands
     ensures { result ≡ writes d }
 {
@@ -38,6 +41,7 @@ fn writes(d: u8) -> Operands
 }
 
 // Source `a`, destination `d`.
+#[tactic(auto, unfolding(crate::specs::Operands::unary))]
 fn unary(d: u8, a: u8) -> Operands
     ensures { result ≡ unary d a }
 {
@@ -45,6 +49,7 @@ fn unary(d: u8, a: u8) -> Operands
 }
 
 // Sources `a` and `b`, destination `d`, latency `l`.
+#[tactic(auto, unfolding(crate::specs::Operands::binary))]
 fn binary(l: u8, d: u8, a: u8, b: u8) -> Operands
     ensures { result ≡ binary l d a b }
 {
@@ -52,6 +57,7 @@ fn binary(l: u8, d: u8, a: u8, b: u8) -> Operands
 }
 
 // Source `a` only.
+#[tactic(auto, unfolding(crate::specs::Operands::reads))]
 fn reads(a: u8) -> Operands
     ensures { result ≡ reads a }
 {
@@ -59,6 +65,7 @@ fn reads(a: u8) -> Operands
 }
 
 // A load from base `a` into `d`.
+#[tactic(auto, unfolding(crate::specs::Operands::loading))]
 fn loading(d: u8, a: u8) -> Operands
     ensures { result ≡ loading d a }
 {
@@ -76,6 +83,7 @@ fn loading(d: u8, a: u8) -> Operands
 }
 
 // A store of register `b` to address or base `a`.
+#[tactic(auto, unfolding(crate::specs::Operands::storing))]
 fn storing(a: u8, b: u8) -> Operands
     ensures { result ≡ storing a b }
 {
@@ -93,6 +101,7 @@ fn storing(a: u8, b: u8) -> Operands
 }
 
 // A conditional branch on `n` sources.
+#[tactic(auto, unfolding(crate::specs::Operands::branching))]
 fn branching(a: u8, b: u8, n: u8, o: i16) -> Operands
     ensures { result ≡ branching a b n o }
 {
@@ -111,6 +120,7 @@ fn branching(a: u8, b: u8, n: u8, o: i16) -> Operands
 
 impl Instruction {
     // The row of a Normal instruction.
+    #[tactic(auto, unfolding(crate::specs::Operands::operands_n))]
     pub(crate) fn operands(self) -> Operands
         ensures { result ≡ operands_n self }
     {
@@ -164,6 +174,7 @@ impl Instruction {
 
 impl ShortInstruction {
     // The row of a Short instruction.
+    #[tactic(auto, unfolding(crate::specs::Operands::operands_s))]
     fn operands(self) -> Operands
         ensures { result ≡ operands_s self }
     {
@@ -207,6 +218,7 @@ impl ShortInstruction {
 
 impl Decoded {
     // Sources, destination, load or store, latency and branch offset.
+    #[tactic(auto, unfolding(crate::specs::Operands::operands_of))]
     pub fn operands(self) -> Operands
         ensures { result ≡ operands_of self }
     {

@@ -6,6 +6,7 @@ use crate::redirects::redirect_if;
 use crate::{Mode, Operands, Redirect};
 
 // A word whose top bit is set.
+#[tactic(auto, unfolding(crate::specs::Waits::is_negative))]
 fn is_negative(w: u32) -> bool
     ensures { result ≡ is_negative w }
 {
@@ -14,6 +15,7 @@ fn is_negative(w: u32) -> bool
 
 impl Operands {
     // The prediction for an instruction with these operands.
+    #[tactic(auto, unfolding(crate::specs::Waits::predict_by))]
     pub fn predict(self, pc: u32, mode: Mode) -> Redirect
         ensures { result ≡ predict_by self pc mode }
     {

@@ -17,6 +17,7 @@ pub(crate) fn redirect_if(taken: bool, target: u32, mode: Mode) -> Redirect
 
 impl Redirect {
     // Whether there is a target.
+    #[tactic(auto, unfolding(crate::specs::Redirects::is_to))]
     pub fn is_to(self) -> bool
         ensures { result ≡ is_to self }
     {
@@ -27,6 +28,7 @@ impl Redirect {
     }
 
     // The target, or `pc` where the instruction goes on.
+    #[tactic(auto, unfolding(crate::specs::Redirects::target_or))]
     pub fn target_or(self, pc: u32) -> u32
         ensures { result ≡ target_or self pc }
     {
@@ -37,6 +39,7 @@ impl Redirect {
     }
 
     // The target's mode, or `mode` where the instruction goes on.
+    #[tactic(auto, unfolding(crate::specs::Redirects::mode_or))]
     pub fn mode_or(self, mode: Mode) -> Mode
         ensures { result ≡ mode_or self mode }
     {
@@ -49,6 +52,7 @@ impl Redirect {
 
 impl NewMode {
     // The new mode, or `mode` where it is kept.
+    #[tactic(auto, unfolding(crate::specs::Redirects::new_mode_or))]
     pub fn or(self, mode: Mode) -> Mode
         ensures { result ≡ new_mode_or self mode }
     {

@@ -8,6 +8,7 @@ use crate::{Decoded, Instruction, Mode, Operands, RawInstr};
 
 impl Operands {
     // Whether every register that is named is below 32.
+    #[tactic(auto, unfolding(crate::specs::Operands::ok_operands))]
     pub fn in_bounds(self) -> bool
         ensures { result ≡ ok_operands self }
     {
@@ -18,6 +19,7 @@ impl Operands {
 
 impl Instruction {
     // Its refusal.
+    #[tactic(auto, unfolding(crate::specs::Refusals::instruction_code))]
     pub fn code(self) -> u32
         ensures { result ≡ instruction_code self }
     {
@@ -31,6 +33,7 @@ impl Instruction {
 
 impl RawInstr {
     // A halfword has none.
+    #[tactic(auto, unfolding(crate::specs::Refusals::raw_code))]
     pub fn code(self) -> u32
         ensures { result ≡ raw_code self }
     {
@@ -40,6 +43,7 @@ impl RawInstr {
         }
     }
 
+    #[tactic(auto, unfolding(crate::specs::Refusals::is_of))]
     fn is_short(self) -> bool
         ensures { result ≡ is_of Short self }
     {
@@ -50,6 +54,7 @@ impl RawInstr {
     }
 
     // Whether it is an instruction of a mode.
+    #[tactic(auto, unfolding(crate::specs::Refusals::is_of))]
     pub fn is_of(self, mode: Mode) -> bool
         ensures { result ≡ is_of mode self }
     {
@@ -62,6 +67,7 @@ impl RawInstr {
 
 impl Decoded {
     // The register numbers of a Short instruction are not tested.
+    #[tactic(auto, unfolding(crate::specs::Refusals::decoded_code))]
     pub fn code(self) -> u32
         ensures { result ≡ decoded_code self }
     {

@@ -18,6 +18,7 @@ pub fn sel(on: bool, a: u32, b: u32) -> u32
 }
 
 // The value of a register; R0 reads as 0.
+#[tactic(auto, unfolding(crate::specs::Registers::is_reg, crate::specs::Registers::read_reg))]
 pub fn read_reg(reg: &[u32; 32], r: u8) -> u32
     ensures { result ≡ read_reg reg.now r }
 {
@@ -31,6 +32,7 @@ pub fn read_reg(reg: &[u32; 32], r: u8) -> u32
 }
 
 // A word for a register from R1 to R31; no other is written.
+#[tactic(auto, unfolding(crate::specs::Registers::is_reg, crate::specs::Registers::put_reg))]
 pub fn put_reg(k: u8, v: u32, reg: &mut [u32; 32])
     ensures { reg.new ≡ put_reg k v reg.old }
 {
@@ -43,6 +45,7 @@ pub fn put_reg(k: u8, v: u32, reg: &mut [u32; 32])
 }
 
 // A word for a destination.
+#[tactic(auto, unfolding(crate::specs::Registers::write_reg))]
 pub fn write_reg(d: Dest, v: u32, reg: &mut [u32; 32])
     ensures { reg.new ≡ write_reg d v reg.old }
 {
@@ -53,6 +56,7 @@ pub fn write_reg(d: Dest, v: u32, reg: &mut [u32; 32])
 }
 
 // CPUID's two words.
+#[tactic(auto, unfolding(crate::specs::Registers::write_cpuid))]
 pub fn write_cpuid(on: bool, features: u32, reg: &mut [u32; 32])
     ensures { reg.new ≡ write_cpuid on features reg.old }
 {

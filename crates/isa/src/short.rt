@@ -5,18 +5,21 @@ ghost use Rattle.isa.specs.Short.{decode_short, decoded_of, low_bits, nibble};
 use crate::{Decoded, RawInstr, ShortInstruction};
 
 // The register numbers of a halfword, each in its nibble.
+#[tactic(auto, unfolding(crate::specs::Short::nibble))]
 fn rd_of(raw: u16) -> u8
     ensures { result ≡ nibble raw 2 }
 {
     (raw / 256 % 16) as u8
 }
 
+#[tactic(auto, unfolding(crate::specs::Short::nibble))]
 fn rs1_of(raw: u16) -> u8
     ensures { result ≡ nibble raw 1 }
 {
     (raw / 16 % 16) as u8
 }
 
+#[tactic(auto, unfolding(crate::specs::Short::nibble))]
 fn rs2_of(raw: u16) -> u8
     ensures { result ≡ nibble raw 0 }
 {
@@ -31,6 +34,7 @@ fn imm8_of(raw: u16) -> u8
 }
 
 // The low 8 bits, signed.
+#[tactic(auto, unfolding(crate::specs::Short::low_bits))]
 fn imm8_signed(raw: u16) -> i8
     ensures { result ≡ low_bits 7 raw }
 {
@@ -42,6 +46,7 @@ fn imm8_signed(raw: u16) -> i8
 }
 
 // The low 12 bits, signed.
+#[tactic(auto, unfolding(crate::specs::Short::low_bits))]
 fn imm12_signed(raw: u16) -> i16
     ensures { result ≡ low_bits 11 raw }
 {
@@ -54,6 +59,7 @@ fn imm12_signed(raw: u16) -> i16
 
 impl ShortInstruction {
     // The instruction of a halfword.
+    #[tactic(auto, unfolding(crate::specs::Short::short_by, crate::specs::Short::decode_short))]
     pub fn decode_short(raw: u16) -> ShortInstruction
         ensures { result ≡ decode_short raw }
     {
@@ -104,6 +110,7 @@ impl ShortInstruction {
 
 impl RawInstr {
     // What a fetch brought, decoded.
+    #[tactic(auto, unfolding(crate::specs::Short::decoded_of))]
     pub fn decoded(self) -> Decoded
         ensures { result ≡ decoded_of self }
     {

@@ -6,6 +6,7 @@ use crate::{Mode, Start};
 
 impl Start {
     // Registers, address and feature word 0, Normal, supervisor.
+    #[tactic(auto, unfolding(crate::specs::Machine::zero_start))]
     pub fn zero() -> Start
         ensures { result ≡ zero_start }
     {

@@ -7,6 +7,7 @@ use crate::{Decoded, Instruction};
 
 impl Instruction {
     // The ticks that it waits in EX: one less than its latency.
+    #[tactic(auto, unfolding(crate::specs::Waits::waits, crate::specs::Operands::operands_of, crate::specs::Operands::operands_n, crate::specs::Operands::plain, crate::specs::Operands::bare, crate::specs::Operands::writes, crate::specs::Operands::unary, crate::specs::Operands::binary, crate::specs::Operands::reads, crate::specs::Operands::loading, crate::specs::Operands::storing, crate::specs::Operands::branching))]
     fn waits(self) -> u32
         ensures { result ≡ waits (DecNormal self) }
     {
@@ -23,6 +24,7 @@ impl Instruction {
 
 impl Decoded {
     // The ticks that it waits in EX; no Short instruction does.
+    #[tactic(auto, unfolding(crate::specs::Waits::waits, crate::specs::Operands::operands_of, crate::specs::Operands::operands_s, crate::specs::Operands::plain, crate::specs::Operands::bare, crate::specs::Operands::writes, crate::specs::Operands::unary, crate::specs::Operands::binary, crate::specs::Operands::reads, crate::specs::Operands::loading, crate::specs::Operands::storing, crate::specs::Operands::branching))]
     pub fn waits(self) -> u32
         ensures { result ≡ waits self }
     {

@@ -5,6 +5,7 @@ ghost use Rattle.latch.specs.Bounds.{bad_ex_mem, bad_id_ex, bad_if_id, bad_mem_w
 use crate::{ExMem, IdEx, IfId, MemWb};
 
 // A width other than 0, 1, 2, 4.
+#[tactic(auto, unfolding(crate::specs::Bounds::bad_width))]
 fn bad_width(w: u8) -> bool
     ensures { result ≡ bad_width w }
 {
@@ -13,6 +14,7 @@ fn bad_width(w: u8) -> bool
 
 impl IfId {
     // An instruction that is refused.
+    #[tactic(auto, unfolding(crate::specs::Bounds::bad_if_id))]
     pub fn out_of_bounds(self) -> bool
         ensures { result ≡ bad_if_id self }
     {
@@ -23,6 +25,7 @@ impl IfId {
 
 impl IdEx {
     // An instruction that is refused, a register above 31, or more than two sources.
+    #[tactic(auto, unfolding(crate::specs::Bounds::bad_id_ex))]
     pub fn out_of_bounds(self) -> bool
         ensures { result ≡ bad_id_ex self }
     {
@@ -35,6 +38,7 @@ impl IdEx {
 
 impl ExMem {
     // An instruction that is refused, a destination above 31, or no such width.
+    #[tactic(auto, unfolding(crate::specs::Bounds::bad_ex_mem))]
     pub fn out_of_bounds(self) -> bool
         ensures { result ≡ bad_ex_mem self }
     {
@@ -46,6 +50,7 @@ impl ExMem {
 
 impl MemWb {
     // A destination above 31.
+    #[tactic(auto, unfolding(crate::specs::Bounds::bad_mem_wb))]
     pub fn out_of_bounds(self) -> bool
         ensures { result ≡ bad_mem_wb self }
     {

@@ -9,6 +9,7 @@ use isa::registers::read_reg;
 use isa::{Decoded, Dest, Exception, Mode, Operands};
 
 // A destination other than R0 that is one of two sources; where none is named, no wait arises.
+#[tactic(auto, unfolding(isa::specs::Waits::is_used))]
 fn is_used(dest: Dest, a: u8, b: u8) -> bool
     ensures { result ≡ is_used dest a b }
 {
@@ -20,6 +21,7 @@ fn is_used(dest: Dest, a: u8, b: u8) -> bool
 
 impl IfId {
     // IF/ID emptied: invalid, with its contents kept.
+    #[tactic(auto, unfolding(crate::specs::Latches::cleared))]
     pub fn cleared(self) -> IfId
         ensures { result ≡ cleared self }
     {
@@ -34,6 +36,7 @@ impl IfId {
     }
 
     // What IF/ID holds, decoded; it predicts nothing.
+    #[tactic(auto, unfolding(crate::specs::Decode::decode_id, crate::specs::Decode::id_ex_of))]
     pub fn decode(self, reg: &[u32; 32]) -> IdEx
         ensures { result ≡ decode_id self reg.now }
     {
@@ -46,6 +49,7 @@ impl IfId {
 
 impl IdEx {
     // The latch of an instruction with operands `o`, sampled from the registers.
+    #[tactic(auto, unfolding(crate::specs::Decode::id_ex_by))]
     pub fn of(
         predicted: bool,
         d: Decoded,
@@ -78,6 +82,7 @@ impl IdEx {
     }
 
     // A valid load whose destination, other than R0, is one of the two sources.
+    #[tactic(auto, unfolding(crate::specs::Decode::load_use))]
     pub fn load_is_used(self, a: u8, b: u8) -> bool
         ensures { result ≡ load_use self a b }
     {

@@ -29,6 +29,7 @@ fn dest_if(on: bool, d: Dest) -> Dest
 }
 
 // The redirect of a way that was predicted taken or not.
+#[tactic(auto, unfolding(crate::specs::Execute::mispredict))]
 pub fn mispredict(predicted: bool, way: Redirect, pc: u32, mode: Mode) -> Redirect
     ensures { result ≡ mispredict predicted way pc mode }
 {
@@ -44,6 +45,7 @@ pub fn mispredict(predicted: bool, way: Redirect, pc: u32, mode: Mode) -> Redire
 
 impl IdEx {
     // What the instruction does with two operand values; an exception already in the latch comes first.
+    #[tactic(auto, unfolding(crate::specs::Execute::effect_in))]
     pub fn effect(self, user: bool, a: u32, b: u32) -> Effect
         ensures { result ≡ effect_in user self a b }
     {
@@ -56,6 +58,7 @@ impl IdEx {
     }
 
     // The next EX/MEM.
+    #[tactic(auto, unfolding(crate::specs::Execute::ex_mem_of, isa::specs::Machine::dest_of))]
     pub fn ex_mem(self, e: Effect) -> ExMem
         ensures { result ≡ ex_mem_of self e }
     {
@@ -97,6 +100,7 @@ impl IdEx {
 }
 
 // Operand B: forwarded where two sources are named, else as it was sampled.
+#[tactic(auto, unfolding(crate::specs::Execute::operand_b))]
 fn operand_b(x: ExMem, w: MemWb, features: u32, reg: &[u32; 32], d: IdEx) -> u32
     ensures { result ≡ operand_b x w features reg.now d }
 {
@@ -107,6 +111,7 @@ fn operand_b(x: ExMem, w: MemWb, features: u32, reg: &[u32; 32], d: IdEx) -> u32
 }
 
 // The effect of ID/EX with its operands forwarded out of the latches.
+#[tactic(auto, unfolding(crate::specs::Execute::effect_from))]
 pub fn effect_from(
     user: bool,
     x: ExMem,

@@ -6,6 +6,7 @@ use crate::{ExMem, MemWb};
 use isa::registers::{PROCESSOR_NAME, read_reg};
 
 // CPUID's words for R1 and R2 over `v`, where it is on.
+#[tactic(auto, unfolding(crate::specs::Forwarding::cpuid_word))]
 fn cpuid_word(on: bool, features: u32, r: u8, v: u32) -> u32
     ensures { result ≡ cpuid_word on features r v }
 {
@@ -30,6 +31,7 @@ impl MemWb {
     }
 
     // Its value for a register that it writes, then CPUID's words.
+    #[tactic(auto, unfolding(crate::specs::Forwarding::from_mem_wb))]
     pub fn forward(self, features: u32, r: u8, v: u32) -> u32
         ensures { result ≡ from_mem_wb self features r v }
     {
@@ -50,6 +52,7 @@ impl ExMem {
     }
 
     // The same, but never the result of a load.
+    #[tactic(auto, unfolding(crate::specs::Forwarding::from_ex_mem))]
     pub fn forward(self, features: u32, r: u8, v: u32) -> u32
         ensures { result ≡ from_ex_mem self features r v }
     {
@@ -61,6 +64,7 @@ impl ExMem {
 }
 
 // The value of a register as EX sees it. What is older is read only where EX/MEM does not hold it.
+#[tactic(auto, unfolding(crate::specs::Forwarding::forward_from, crate::specs::Forwarding::from_ex_mem))]
 pub fn operand(x: ExMem, w: MemWb, features: u32, reg: &[u32; 32], r: u8) -> u32
     ensures { result ≡ forward_from x w features reg.now r }
 {

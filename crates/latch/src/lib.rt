@@ -33,6 +33,8 @@
 // - MemWb::retired_pc: the next address for a taken branch; 4 added in Short mode.
 // - MemWb::retired_mode: the mode of the instruction itself; the change that an invalid latch holds.
 // - MemWb::write_back: a word left in R0; CPUID's words put over the destination's.
+#![tactic(auto)]
+
 mod bounds;
 mod decode;
 pub mod execute;
@@ -120,6 +122,7 @@ pub struct MemWb {
 
 impl IfId {
     // IF/ID at a start: invalid, with NOP at address 0 in Normal mode.
+    #[tactic(auto, unfolding(crate::specs::Latches::empty_if_id))]
     pub fn invalid() -> IfId
         ensures { result ≡ empty_if_id }
     {
@@ -134,6 +137,7 @@ impl IfId {
 
 impl IdEx {
     // The empty latch.
+    #[tactic(auto, unfolding(crate::specs::Latches::empty_id_ex))]
     pub fn invalid() -> IdEx
         ensures { result ≡ empty_id_ex }
     {
@@ -158,6 +162,7 @@ impl IdEx {
 
 impl ExMem {
     // The empty latch.
+    #[tactic(auto, unfolding(crate::specs::Latches::empty_ex_mem))]
     pub fn invalid() -> ExMem
         ensures { result ≡ empty_ex_mem }
     {
@@ -189,6 +194,7 @@ impl ExMem {
 
 impl MemWb {
     // The empty latch.
+    #[tactic(auto, unfolding(crate::specs::Latches::empty_mem_wb))]
     pub fn invalid() -> MemWb
         ensures { result ≡ empty_mem_wb }
     {

@@ -7,6 +7,7 @@ use isa::{Dest, Request};
 
 impl ExMem {
     // A load that asks for memory; a width of 0 asks for nothing.
+    #[tactic(auto, unfolding(crate::specs::Memory::loads))]
     pub fn loads(self) -> bool
         ensures { result ≡ loads self }
     {
@@ -14,6 +15,7 @@ impl ExMem {
     }
 
     // A store that asks for memory.
+    #[tactic(auto, unfolding(crate::specs::Memory::stores))]
     pub fn stores(self) -> bool
         ensures { result ≡ stores self }
     {
@@ -21,6 +23,7 @@ impl ExMem {
     }
 
     // MEM/WB with this destination, write and value, the rest passed on.
+    #[tactic(auto, unfolding(crate::specs::Memory::passed_on))]
     fn passed(self, dest: Dest, writeback: bool, value: u32) -> MemWb
         ensures { result ≡ passed_on self dest writeback value }
     {
@@ -47,6 +50,7 @@ impl ExMem {
     }
 
     // The next MEM/WB; a load takes its answer whole. Most instructions ask for nothing.
+    #[tactic(auto, unfolding(crate::specs::Memory::mem_wb_of))]
     pub fn mem_wb(self, answer: u32) -> MemWb
         ensures { result ≡ mem_wb_of self answer }
     {
@@ -67,6 +71,7 @@ impl ExMem {
     }
 
     // The load or store that it asks for.
+    #[tactic(auto, unfolding(crate::specs::Memory::requests, isa::specs::Machine::request_of, crate::specs::Memory::request_in))]
     pub fn request(self) -> Request
         ensures { result ≡ request_in (requests self) }
     {

@@ -8,6 +8,7 @@ use isa::registers::{put_reg, write_cpuid};
 use isa::{Dest, Mode};
 
 // A write puts R0 back to 0.
+#[tactic(auto, unfolding(crate::specs::Retire::retire_reg))]
 fn retire_reg(d: Dest, v: u32, reg: &mut [u32; 32])
     ensures { reg.new ≡ retire_reg d v reg.old }
 {
@@ -19,6 +20,7 @@ fn retire_reg(d: Dest, v: u32, reg: &mut [u32; 32])
 }
 
 // CPUID's words, and R0 back to 0.
+#[tactic(auto, unfolding(crate::specs::Retire::retire_cpuid, isa::specs::Registers::write_cpuid))]
 fn retire_cpuid(on: bool, features: u32, reg: &mut [u32; 32])
     ensures { reg.new ≡ retire_cpuid on features reg.old }
 {
@@ -30,6 +32,7 @@ fn retire_cpuid(on: bool, features: u32, reg: &mut [u32; 32])
 
 impl MemWb {
     // A valid HALT.
+    #[tactic(auto, unfolding(crate::specs::Retire::halts))]
     pub fn halts(self) -> bool
         ensures { result ≡ halts self }
     {
@@ -37,6 +40,7 @@ impl MemWb {
     }
 
     // A valid exception, MTSR or IRET, which never retires.
+    #[tactic(auto, unfolding(crate::specs::Retire::is_faulty))]
     pub fn is_faulty(self) -> bool
         ensures { result ≡ is_faulty self }
     {
@@ -46,6 +50,7 @@ impl MemWb {
     }
 
     // The retire address after it.
+    #[tactic(auto, unfolding(crate::specs::Retire::retired_pc))]
     pub fn retired_pc(self, pc: u32) -> u32
         ensures { result ≡ retired_pc self pc }
     {
@@ -60,6 +65,7 @@ impl MemWb {
     }
 
     // A mode after it.
+    #[tactic(auto, unfolding(crate::specs::Retire::retired_mode))]
     pub fn retired_mode(self, mode: Mode) -> Mode
         ensures { result ≡ retired_mode self mode }
     {
@@ -71,6 +77,7 @@ impl MemWb {
     }
 
     // The registers after it.
+    #[tactic(auto, unfolding(crate::specs::Retire::retired_regs))]
     pub fn write_back(self, features: u32, reg: &mut [u32; 32])
         ensures { reg.new ≡ retired_regs self features reg.old }
     {

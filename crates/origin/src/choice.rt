@@ -6,6 +6,7 @@ use crate::{Origin, Origins};
 use latch::{ExMem, IdEx, MemWb};
 
 // Whether a CPUID that is on holds register `r`.
+#[tactic(auto, unfolding(crate::specs::Origins::cpuid_holds))]
 fn cpuid_holds(on: bool, r: u8) -> bool
     ensures { result ≡ cpuid_holds on r }
 {
@@ -13,6 +14,7 @@ fn cpuid_holds(on: bool, r: u8) -> bool
 }
 
 // Where the value of a register that EX/MEM does not give comes from.
+#[tactic(auto, unfolding(crate::specs::Origins::older_origin))]
 fn older_origin(w: MemWb, r: u8) -> Origin
     ensures { result ≡ older_origin w r }
 {
@@ -26,6 +28,7 @@ fn older_origin(w: MemWb, r: u8) -> Origin
 }
 
 // Where the value of a register comes from.
+#[tactic(auto, unfolding(crate::specs::Origins::origin_from))]
 pub fn origin_of(x: ExMem, w: MemWb, r: u8) -> Origin
     ensures { result ≡ origin_from x w r }
 {
@@ -42,6 +45,7 @@ pub fn origin_of(x: ExMem, w: MemWb, r: u8) -> Origin
 }
 
 // The origin of an operand, which its latch names or not.
+#[tactic(auto, unfolding(crate::specs::Origins::named_origin))]
 fn named_origin(named: bool, x: ExMem, w: MemWb, r: u8) -> Origin
     ensures { result ≡ named_origin named x w r }
 {
@@ -52,6 +56,7 @@ fn named_origin(named: bool, x: ExMem, w: MemWb, r: u8) -> Origin
 }
 
 // The origins of a latch's operands, whatever else it holds.
+#[tactic(auto, unfolding(crate::specs::Origins::origins_of))]
 pub fn origins_of(x: ExMem, w: MemWb, d: IdEx) -> Origins
     ensures { result ≡ origins_of x w d }
 {

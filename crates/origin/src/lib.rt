@@ -5,6 +5,8 @@
 // - origin_of: MEM/WB named before EX/MEM (mem_wb_named_first); a load in EX/MEM as origin (load_as_origin).
 // - origins_of: a source that is not named shown as the zero register (unnamed_as_zero); operand B's origin shown where
 //   the latch names one source.
+#![tactic(auto)]
+
 pub mod choice;
 
 // The places that a value comes from.

@@ -10,6 +10,7 @@ use isa::{Inquiry, Request};
 use origin::choice::origins_of;
 use stages::{Move, Place, Stages};
 
+#[tactic(auto, unfolding(crate::specs::Ask::fetch_of))]
 fn fetch_of(fetches: bool, place: Place) -> Fetch
     ensures { result ≡ fetch_of fetches place }
 {
@@ -20,6 +21,7 @@ fn fetch_of(fetches: bool, place: Place) -> Fetch
     Fetch::None
 }
 
+#[tactic(auto, unfolding(stages::specs::Move::is_wait))]
 fn is_wait(step: Move) -> bool
     ensures { result ≡ is_wait step }
 {
@@ -33,6 +35,7 @@ fn is_wait(step: Move) -> bool
 }
 
 // The origins that the execution of a move passes on.
+#[tactic(auto, unfolding(crate::specs::Ask::origins_in, stages::specs::Forwarding::origins_for))]
 fn origins_in(step: Move, l: Stages) -> Shown
     ensures { result ≡ origins_in step l }
 {

@@ -16,6 +16,8 @@
 //   10 before 11; no origins for an invalid latch.
 // - PipelineCpu::decode_id: an invalid latch made of an invalid one; a branch with negative offset predicted taken.
 // - PipelineCpu::retire: MEM/WB emptied; 12 for a machine that does not run.
+#![tactic(auto)]
+
 mod ask;
 pub mod parts;
 mod refusals;

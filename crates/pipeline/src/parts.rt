@@ -15,6 +15,7 @@ use latch::{IdEx, IfId};
 use origin::choice::{origin_of, origins_of};
 
 // The two sources of what IF/ID holds.
+#[tactic(auto, unfolding(crate::specs::Parts::sources_part))]
 pub fn id_sources(f: IfId) -> Sources
     ensures { result ≡ sources_part f }
 {
@@ -27,6 +28,7 @@ pub fn id_sources(f: IfId) -> Sources
     Sources::Two(o.src_a, o.src_b)
 }
 
+#[tactic(auto, unfolding(crate::specs::Parts::latency_from))]
 fn latency_from(n: u8) -> MulDiv
     ensures { result ≡ latency_from n }
 {
@@ -37,6 +39,7 @@ fn latency_from(n: u8) -> MulDiv
 }
 
 // The latency of a multiply or divide.
+#[tactic(auto, unfolding(crate::specs::Parts::mul_div_part))]
 pub fn is_mul_div(d: Decoded) -> MulDiv
     ensures { result ≡ mul_div_part d }
 {
@@ -48,6 +51,7 @@ pub fn is_mul_div(d: Decoded) -> MulDiv
 }
 
 // Whether two sources wait for the load in a latch.
+#[tactic(auto, unfolding(crate::specs::Parts::hazard_part))]
 pub fn load_use_hazard(d: IdEx, a: u8, b: u8) -> Hazard
     ensures { result ≡ hazard_part d a b }
 {
@@ -59,6 +63,7 @@ pub fn load_use_hazard(d: IdEx, a: u8, b: u8) -> Hazard
 
 impl PipelineCpu {
     // The value of a register as EX sees it, and its origin.
+    #[tactic(auto, unfolding(crate::specs::Parts::forwarded_part, stages::specs::Forwarding::forwarded, stages::specs::Forwarding::origin_of))]
     pub fn forwarded(self, r: u8) -> Forwarded
         ensures { result ≡ forwarded_part self r }
     {
@@ -72,6 +77,7 @@ impl PipelineCpu {
     }
 
     // The next EX/MEM of a latch, the way that its instruction goes, and the origins of its operands.
+    #[tactic(auto, unfolding(crate::specs::Parts::execute_part, stages::specs::Execute::effect_for, stages::specs::Forwarding::origins_for))]
     pub fn execute_ex(self, d: IdEx, special: Special) -> Executed
         ensures { result ≡ execute_part self d special }
     {
@@ -94,6 +100,7 @@ impl PipelineCpu {
     }
 
     // The ID/EX that a latch decodes to.
+    #[tactic(auto, unfolding(crate::specs::Parts::decode_part))]
     pub fn decode_id(self, f: IfId) -> DecodedId
         ensures { result ≡ decode_part self f }
     {
@@ -106,6 +113,7 @@ impl PipelineCpu {
     }
 
     // The state after the retirement of MEM/WB; a refused one is handed back as it was.
+    #[tactic(auto, unfolding(crate::specs::Inner::accepted_with, crate::specs::Retire::retire, stages::specs::Counting::unless_full))]
     pub fn retire(self) -> Ticked
         ensures { result ≡ retire_part self }
     {

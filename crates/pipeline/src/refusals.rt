@@ -8,6 +8,7 @@ use isa::{Inquiry, Mode, Special};
 
 impl PipelineCpu {
     // 11, 12 or 13; whether 12 applies is told by the caller.
+    #[tactic(auto, unfolding(crate::specs::Refusals::state_tests, crate::specs::Refusals::code_of))]
     pub(crate) fn state_code(self, faulty: bool) -> u32
         ensures { result ≡ code_of (state_tests faulty self) }
     {
@@ -27,6 +28,7 @@ impl PipelineCpu {
 }
 
 // 1.
+#[tactic(auto, unfolding(crate::specs::Tick::offer_code))]
 fn offer_code(offer: Offer) -> u32
     ensures { result ≡ offer_code offer }
 {
@@ -46,6 +48,7 @@ fn fits_offer(fetch: bool, mode: Mode, offer: Offer) -> bool
     fetch & raw.is_of(mode)
 }
 
+#[tactic(auto, unfolding(crate::specs::Tick::is_answer))]
 fn is_answer(answer: Answer) -> bool
     ensures { result ≡ is_answer answer }
 {
@@ -55,6 +58,7 @@ fn is_answer(answer: Answer) -> bool
     true
 }
 
+#[tactic(auto, unfolding(crate::specs::Tick::same))]
 fn same(a: bool, b: bool) -> bool
     ensures { result ≡ same a b }
 {
@@ -65,6 +69,7 @@ fn same(a: bool, b: bool) -> bool
 }
 
 // Something is said exactly where a special register is asked for.
+#[tactic(auto, unfolding(crate::specs::Tick::fits_special))]
 pub(crate) fn fits_special(inquiry: Inquiry, special: Special) -> bool
     ensures { result ≡ fits_special inquiry special }
 {
@@ -73,6 +78,7 @@ pub(crate) fn fits_special(inquiry: Inquiry, special: Special) -> bool
 
 impl Given {
     // 1, 3, 4 or 10.
+    #[tactic(auto, unfolding(crate::specs::Tick::given_tests, crate::specs::Refusals::code_of))]
     pub(crate) fn code(self, fetch: bool, mode: Mode, load: bool, inquiry: Inquiry) -> u32
         ensures { result ≡ code_of (given_tests fetch mode load inquiry self) }
     {

@@ -9,6 +9,7 @@ use stages::{Counters, Place, Stages};
 
 impl PipelineCpu {
     // The state that a program starts in: R0 becomes 0, latches are empty, no wait, running, counters 0.
+    #[tactic(auto, unfolding(crate::specs::Start::fresh))]
     pub fn start(v: Start) -> PipelineCpu
         ensures { result ≡ fresh v }
     {

@@ -11,6 +11,7 @@ use isa::{Inquiry, Instruction, Mode, RawInstr};
 use stages::{Counters, Move, Stages, Taken};
 
 // The instruction that is offered; a NOP stands for none, and is not looked at.
+#[tactic(auto, unfolding(crate::specs::Tick::raw_of))]
 fn raw_of(offer: Offer) -> RawInstr
     ensures { result ≡ raw_of offer }
 {
@@ -21,6 +22,7 @@ fn raw_of(offer: Offer) -> RawInstr
 }
 
 // The answer's word; 0 stands for none, and is not looked at.
+#[tactic(auto, unfolding(crate::specs::Tick::word_in))]
 fn word_in(answer: Answer) -> u32
     ensures { result ≡ word_in answer }
 {
@@ -32,6 +34,7 @@ fn word_in(answer: Answer) -> u32
 
 impl Given {
     // What the tick takes in.
+    #[tactic(auto, unfolding(crate::specs::Tick::taken))]
     fn taken(self) -> Taken
         ensures { result ≡ taken self }
     {
@@ -47,6 +50,7 @@ impl Given {
 }
 
 // The state of three parts, accepted.
+#[tactic(auto, unfolding(crate::specs::Inner::accepted_with))]
 pub(crate) fn accepted(reg: [u32; 32], stages: Stages, counts: Counters) -> Ticked
     ensures { result ≡ accepted_with reg stages counts }
 {
@@ -61,6 +65,7 @@ pub(crate) fn accepted(reg: [u32; 32], stages: Stages, counts: Counters) -> Tick
 }
 
 impl PipelineCpu {
+    #[tactic(auto, unfolding(crate::specs::Inner::refused_with))]
     pub(crate) fn refused(self, n: u32) -> Ticked
         ensures { result ≡ refused_with n self }
     {
@@ -89,6 +94,7 @@ impl PipelineCpu {
     }
 
     // A wait goes on in stages that retirement left.
+    #[tactic(auto, unfolding(crate::specs::Inner::accepted_with))]
     fn tick_waiting(self, s: Stages, reg: [u32; 32], t: Given) -> Ticked
         requires retired { Retired self s reg }
         requires s_value { waits_on s ≡ true }
@@ -106,6 +112,7 @@ impl PipelineCpu {
     }
 
     // No wait goes on: plan, test what is given, advance, count.
+    #[tactic(auto, unfolding(crate::specs::Inner::accepted_with))]
     fn tick_planned(self, s: Stages, reg: [u32; 32], t: Given) -> Ticked
         requires retired { Retired self s reg }
         requires s_value { waits_on s ≡ false }

@@ -5,6 +5,8 @@
 // spent before halted (spent_before_halted); loads before stopped (loads_before_stopped); HALT not counted
 // (halt_not_counted); the stopping instruction done (stopping_one_done); an answer used twice (answer_used_twice);
 // R0 as it was handed in (r0_kept); a refusal with R0 put to 0; an MFSR outside its table done.
+#![tactic(auto)]
+
 ghost use Rattle.std.specs.Prelude.{◌≤◌, cond, ◌≡◌, slice_index};
 ghost use Rattle.player.specs.Inner.{played_to};
 ghost use Rattle.player.specs.Names.{PlayLoads, PlayStopped};
@@ -69,6 +71,7 @@ fn value_of(loads: bool, e: Effect, answers: &[u32], used: usize) -> u32
 }
 
 // The report of a play that ends here.
+#[tactic(auto, unfolding(crate::specs::Inner::played_to))]
 fn report(
     end: PlayerEnd,
     v: Start,
@@ -96,6 +99,7 @@ fn report(
 }
 
 // The turns of a play that was not refused before its first.
+#[tactic(auto, unfolding(isa::specs::Machine::arch_with))]
 fn turns(v: Start, sheet: &[u8], answers: &[u32], table: &[u32], limit: u32) -> Played
     requires { limit ≤ 1000000 }
     ensures { result ≡
@@ -137,6 +141,7 @@ fn turns(v: Start, sheet: &[u8], answers: &[u32], table: &[u32], limit: u32) -> 
 }
 
 // Plays a sheet from a start's values to its end; `table` has the words of the special registers.
+#[tactic(auto, unfolding(crate::specs::Player::played, crate::specs::Player::refused_play))]
 pub fn play(start: Start, sheet: &[u8], answers: &[u32], table: &[u32], limit: u32) -> Played
     ensures { result ≡ played start sheet.now answers.now table.now limit }
 {

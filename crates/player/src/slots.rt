@@ -10,6 +10,7 @@ use sheet::specials::special_at;
 
 impl Slot {
     // The slot of an address and mode.
+    #[tactic(auto, unfolding(crate::specs::Inner::slot_at))]
     pub(crate) fn at(sheet: &[u8], pc: u32, mode: Mode) -> Slot
         ensures { result ≡ slot_at sheet.now pc mode }
     {
@@ -25,6 +26,7 @@ impl Slot {
     }
 
     // Whether it is the slot of an address and mode.
+    #[tactic(auto, unfolding(crate::specs::Inner::is_at))]
     pub(crate) fn is_at(self, pc: u32, mode: Mode) -> bool
         ensures { result ≡ is_at self pc mode }
     {
@@ -33,6 +35,7 @@ impl Slot {
     }
 
     // What its instruction does with the registers and a table of special registers.
+    #[tactic(auto, unfolding(crate::specs::Inner::effect_in, crate::specs::Inner::open_in))]
     pub(crate) fn effect(self, user: bool, table: &[u32], reg: &[u32; 32]) -> Effect
         ensures { result ≡ effect_in user table.now self reg.now }
     {
@@ -47,6 +50,7 @@ impl Slot {
 }
 
 // Its place among the slots.
+#[tactic(auto, unfolding(crate::specs::Inner::place_of))]
 pub(crate) fn place_of(pc: u32) -> usize
     ensures { result ≡ place_of pc }
 {

@@ -7,6 +7,7 @@ use isa::registers::{write_cpuid, write_reg};
 use isa::{Effect, Operands};
 
 // An instruction that raises an exception or is MTSR or IRET.
+#[tactic(auto, unfolding(isa::specs::Machine::is_barred))]
 pub(crate) fn is_barred(e: Effect) -> bool
     ensures { result ≡ is_barred e }
 {
@@ -17,6 +18,7 @@ pub(crate) fn is_barred(e: Effect) -> bool
 }
 
 // What an instruction writes: CPUID's words, and a word for its destination.
+#[tactic(auto, unfolding(crate::specs::Inner::written, isa::specs::Machine::dest_of, isa::specs::Registers::write_reg))]
 pub(crate) fn write(e: Effect, o: Operands, value: u32, features: u32, reg: &mut [u32; 32])
     ensures { reg.new ≡ written e o.dest value features reg.old }
 {

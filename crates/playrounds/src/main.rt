@@ -1,6 +1,8 @@
 // Plays a sheet so many times from the start of RULES 20.1, and writes the sum of the instructions done. Standard
 // input: rounds and limit on instructions, four bytes each, high byte first, then the sheet. Every load answer is 0, and
 // there is no special register.
+#![tactic(auto)]
+
 use isa::Start;
 
 fn total(rounds: u32, limit: u32, sheet: &[u8], answers: &[u32]) -> u64 {

@@ -7,6 +7,7 @@ use crate::text::{put_bytes, put_line, put_number, put_value};
 use sheet::End;
 
 // How the run ended.
+#[tactic(auto, unfolding(crate::specs::Text::end_line))]
 pub(crate) fn put_end(out: &mut [u8], at: usize, end: End) -> usize
     ensures { Puts out.old at (end_line end) out.new result }
 {
@@ -19,6 +20,7 @@ pub(crate) fn put_end(out: &mut [u8], at: usize, end: End) -> usize
 }
 
 // The ticks done, then three counters.
+#[tactic(auto, unfolding(crate::specs::Text::count_lines))]
 pub(crate) fn put_counts(
     out: &mut [u8],
     at: usize,
@@ -36,6 +38,7 @@ pub(crate) fn put_counts(
 }
 
 // A register with its value, unless that is 0.
+#[tactic(auto, unfolding(crate::specs::Text::register_line, crate::specs::Ascii::line))]
 fn put_register(out: &mut [u8], at: usize, r: u64, value: u64) -> usize
     ensures { Puts out.old at (register_line r value) out.new result }
 {
@@ -48,6 +51,7 @@ fn put_register(out: &mut [u8], at: usize, r: u64, value: u64) -> usize
 }
 
 // The registers, lowest first.
+#[tactic(auto, unfolding(crate::specs::Text::register_lines))]
 pub(crate) fn put_registers(out: &mut [u8], at: usize, reg: &[u32; 32]) -> usize
     ensures { Puts out.old at (register_lines 32 reg.now) out.new result }
 {

@@ -11,6 +11,7 @@ use sheet::End;
 use sheet::check::first_refused;
 
 // The digit of the lowest four bits.
+#[tactic(auto, unfolding(crate::specs::Refusal::hex_digit))]
 fn hex_digit(n: u32) -> u8
     ensures { result ≡ hex_digit n }
 {
@@ -22,6 +23,7 @@ fn hex_digit(n: u32) -> u8
 }
 
 // The lowest sixteen bits.
+#[tactic(auto, unfolding(crate::specs::Refusal::hex_four))]
 fn put_four(out: &mut [u8], at: usize, n: u32) -> usize
     ensures { Puts out.old at (hex_four n) out.new result }
 {
@@ -35,6 +37,7 @@ fn put_four(out: &mut [u8], at: usize, n: u32) -> usize
 }
 
 // An address.
+#[tactic(auto, unfolding(crate::specs::Refusal::hexadecimal))]
 fn put_hex(out: &mut [u8], at: usize, n: u32) -> usize
     ensures { Puts out.old at (hexadecimal n) out.new result }
 {
@@ -46,6 +49,7 @@ fn put_hex(out: &mut [u8], at: usize, n: u32) -> usize
 }
 
 // The record of an address.
+#[tactic(auto, unfolding(crate::specs::Refusal::record_text))]
 fn put_record(out: &mut [u8], at: usize, pc: u32) -> usize
     ensures { Puts out.old at (record_text pc) out.new result }
 {
@@ -56,6 +60,7 @@ fn put_record(out: &mut [u8], at: usize, pc: u32) -> usize
 }
 
 // Which record it was, the number of the refusal, and why.
+#[tactic(auto, unfolding(crate::specs::Refusal::explained))]
 fn put_explained(out: &mut [u8], pc: u32, n: u64, why: &[u8]) -> usize
     ensures { Puts out.old 0 (explained pc n why.now) out.new result }
 {
@@ -69,6 +74,7 @@ fn put_explained(out: &mut [u8], pc: u32, n: u64, why: &[u8]) -> usize
 }
 
 // What came to retire where 12 applies.
+#[tactic(auto, unfolding(crate::specs::Refusal::fault_reason))]
 fn put_fault(out: &mut [u8], pc: u32, exception: Exception, iret: bool) -> usize
     ensures { Puts out.old 0 (explained pc 12 (fault_reason exception iret)) out.new result }
 {
@@ -91,6 +97,7 @@ fn put_fault(out: &mut [u8], pc: u32, exception: Exception, iret: bool) -> usize
 }
 
 // By the number, the address of the first refused record, and the latch that holds what retires next.
+#[tactic(auto, unfolding(crate::specs::Refusal::refusal_by))]
 fn put_refused(out: &mut [u8], n: u32, first: u32, m: MemWb) -> usize
     ensures { Puts out.old 0 (refusal_by n first m) out.new result }
 {
@@ -116,6 +123,7 @@ fn put_refused(out: &mut [u8], n: u32, first: u32, m: MemWb) -> usize
 }
 
 // Of a run of a sheet; nothing where it was not refused.
+#[tactic(auto, unfolding(crate::specs::Refusal::refusal_text))]
 pub(crate) fn put_refusal(out: &mut [u8], end: End, sheet: &[u8], m: MemWb) -> usize
     ensures { Puts out.old 0 (refusal_text end sheet.now m) out.new result }
 {

@@ -37,6 +37,7 @@ pub(crate) fn put_number(out: &mut [u8], at: usize, n: u64) -> usize
 }
 
 // What follows a line's name: a space, a number and the line's end.
+#[tactic(auto, unfolding(crate::specs::Ascii::value))]
 pub(crate) fn put_value(out: &mut [u8], at: usize, n: u64) -> usize
     ensures { Puts out.old at (value n) out.new result }
 {
@@ -46,6 +47,7 @@ pub(crate) fn put_value(out: &mut [u8], at: usize, n: u64) -> usize
 }
 
 // A line.
+#[tactic(auto, unfolding(crate::specs::Ascii::line))]
 pub(crate) fn put_line(out: &mut [u8], at: usize, name: &[u8], n: u64) -> usize
     ensures { Puts out.old at (line name.now n) out.new result }
 {

@@ -1,6 +1,8 @@
 // Runs a sheet so many times from the start of RULES 20.1, and writes the sum of the ticks used and the sum of the
 // instructions retired. Standard input: rounds and tick limit, four bytes each, high byte first, then the sheet.
 // Every load answer is 0, and there is no special register.
+#![tactic(auto)]
+
 use isa::Start;
 use pipeline::PipelineCpu;
 

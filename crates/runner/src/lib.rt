@@ -4,6 +4,8 @@
 // Wrong programs that the promise of `run` rules out: ticks reported one off; a state after a late refusal that is not
 // the one before the refused tick; 11 before 7; an answer used twice; a halted run reported as spent; a special register
 // looked up in an empty table.
+#![tactic(auto)]
+
 ghost use Rattle.std.specs.Prelude.{cond, ◌≡◌, slice_index};
 ghost use Rattle.runs.specs.Run.{play, ran, reported, run_code, turn_of};
 ghost use Rattle.sheet.specs.Sheet.{sheet_source};
@@ -38,6 +40,7 @@ fn used_after(s: Stages, k: usize, count: usize) -> usize
 }
 
 // What the turn does; `none`: no answer is left.
+#[tactic(auto, unfolding(runs::specs::Run::turn_of))]
 fn next_turn(s: Stages, c: Counters, spent: bool, none: bool) -> Turn
     ensures { result ≡ turn_of s c spent none }
 {
@@ -51,6 +54,7 @@ fn next_turn(s: Stages, c: Counters, spent: bool, none: bool) -> Turn
 }
 
 // What a tick takes in that is offered nothing; a NOP stands for it, and is not looked at.
+#[tactic(auto, unfolding(crate::specs::Inner::unoffered))]
 fn unoffered(answer: u32, special: Special) -> Taken
     ensures { result ≡ unoffered answer special }
 {
@@ -62,6 +66,7 @@ fn unoffered(answer: u32, special: Special) -> Taken
 }
 
 // What a plan takes in: what the sheet offers, where it fetches, and what the table says, where it asks.
+#[tactic(auto, unfolding(crate::specs::Inner::offered_by))]
 fn offered(l: Stages, plan: Plan, sheet: &[u8], table: &[u32], answer: u32) -> Taken
     ensures { result ≡ offered_by l plan (sheet_source sheet.now table.now) answer }
 {
@@ -81,6 +86,7 @@ fn offered(l: Stages, plan: Plan, sheet: &[u8], table: &[u32], answer: u32) -> T
 }
 
 // The report of a run that ends here.
+#[tactic(auto, unfolding(crate::specs::Inner::ran_to))]
 fn report(end: End, ticks: u32, reg: [u32; 32], stages: Stages, counts: Counters) -> Ran
     ensures { result ≡ ran_to end ticks reg stages counts }
 {
@@ -93,6 +99,7 @@ fn report(end: End, ticks: u32, reg: [u32; 32], stages: Stages, counts: Counters
 }
 
 // The turns of a run that was not refused before its first.
+#[tactic(auto, unfolding(crate::specs::Inner::ran_to, stages::specs::Advance::awake))]
 fn play(state: PipelineCpu, sheet: &[u8], answers: &[u32], table: &[u32], limit: u32) -> Ran
     requires { Ready sheet.now limit state }
     ensures { result ≡
@@ -131,6 +138,7 @@ fn play(state: PipelineCpu, sheet: &[u8], answers: &[u32], table: &[u32], limit:
 }
 
 // 6, per record 5, 1; then 7 and 11.
+#[tactic(auto, unfolding(runs::specs::Run::run_code))]
 fn code(state: PipelineCpu, sheet: &[u8], limit: u32) -> u32
     ensures { result ≡ run_code state sheet.now limit }
 {
@@ -146,6 +154,7 @@ fn code(state: PipelineCpu, sheet: &[u8], limit: u32) -> u32
 }
 
 // Runs a sheet from a state to its end; `table` has the words of the special registers.
+#[tactic(auto, unfolding(runs::specs::Run::ran, runs::specs::Run::refused_run))]
 pub fn run(state: PipelineCpu, sheet: &[u8], answers: &[u32], table: &[u32], limit: u32) -> Ran
     ensures { result ≡ ran state sheet.now answers.now table.now limit }
 {

@@ -13,6 +13,7 @@ pub fn answer_at(answers: &[u32], k: usize) -> u32
 }
 
 // How many answers are used behind a load, and behind what is none, of so many.
+#[tactic(auto, unfolding(crate::specs::Turns::used_after))]
 pub fn used_after(loads: bool, k: usize, count: usize) -> usize
     ensures { result ≡ used_after loads k count }
 {

@@ -8,6 +8,7 @@ use crate::offer::record_at;
 
 impl Record {
     // 5: no such command, or an unused byte not zero; else the code of its instruction.
+    #[tactic(auto, unfolding(crate::specs::Sheet::record_code))]
     fn code(self) -> u32
         ensures { result ≡ record_code self }
     {
@@ -20,6 +21,7 @@ impl Record {
 }
 
 // The code of record k.
+#[tactic(auto, unfolding(crate::specs::Sheet::code_at))]
 fn code_at(sheet: &[u8], k: u32) -> u32
     ensures { result ≡ code_at sheet.now k }
 {
@@ -27,6 +29,7 @@ fn code_at(sheet: &[u8], k: u32) -> u32
 }
 
 // The first of so many records that has a code; their number where none has.
+#[tactic(auto, unfolding(crate::specs::Sheet::first_refused))]
 pub fn first_refused(sheet: &[u8], count: u32) -> u32
     ensures { result ≡ first_refused sheet.now 0 count }
 {
@@ -41,6 +44,7 @@ pub fn first_refused(sheet: &[u8], count: u32) -> u32
 }
 
 // The first code among so many records.
+#[tactic(auto, unfolding(crate::specs::Sheet::first_code))]
 fn first_code(sheet: &[u8], count: u32) -> u32
     ensures { result ≡ first_code sheet.now count }
 {
@@ -52,6 +56,7 @@ fn first_code(sheet: &[u8], count: u32) -> u32
 }
 
 // 6: a length that is no multiple of 5, or above 20,480 bytes.
+#[tactic(auto, unfolding(crate::specs::Sheet::bad_length))]
 pub fn bad_length(n: usize) -> bool
     ensures { result ≡ bad_length n }
 {
@@ -59,6 +64,7 @@ pub fn bad_length(n: usize) -> bool
 }
 
 // 6, then per record 5, 1; 0 for a sheet that is none of these.
+#[tactic(auto, unfolding(crate::specs::Sheet::bad_length, crate::specs::Sheet::sheet_code))]
 pub fn check(sheet: &[u8]) -> u32
     ensures { result ≡ sheet_code sheet.now }
 {
@@ -70,6 +76,7 @@ pub fn check(sheet: &[u8]) -> u32
 }
 
 // The same, then 7: a limit above 1,000,000.
+#[tactic(auto, unfolding(crate::specs::Sheet::limited_code))]
 pub fn check_limited(sheet: &[u8], limit: u32) -> u32
     ensures { result ≡ limited_code sheet.now limit }
 {

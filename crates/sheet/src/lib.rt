@@ -10,6 +10,8 @@
 // - answer_at: the answer before; the last one where none is left.
 // - used_after: one more where nothing is loaded; one more where none is left.
 // - special_at: the neighbour's word (neighbour_register); the last word for a number past the table's end.
+#![tactic(auto)]
+
 pub mod answers;
 pub mod check;
 pub mod offer;

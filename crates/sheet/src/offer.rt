@@ -7,6 +7,7 @@ use crate::records::record_of;
 use isa::{Instruction, Mode, RawInstr};
 
 // Record k of a sheet; none outside it.
+#[tactic(auto, unfolding(crate::specs::Sheet::record_at))]
 pub(crate) fn record_at(sheet: &[u8], k: u32) -> Record
     ensures { result ≡ record_at sheet.now k }
 {
@@ -24,6 +25,7 @@ pub(crate) fn record_at(sheet: &[u8], k: u32) -> Record
 }
 
 // What stands for an instruction where there is none.
+#[tactic(auto, unfolding(crate::specs::Sheet::unknown_of))]
 fn unknown_of(mode: Mode) -> RawInstr
     ensures { result ≡ unknown_of mode }
 {
@@ -34,6 +36,7 @@ fn unknown_of(mode: Mode) -> RawInstr
 }
 
 // A Normal instruction stands at the first of its four bytes.
+#[tactic(auto, unfolding(crate::specs::Sheet::line_offer))]
 fn line_offer(i: Instruction, low: u32, mode: Mode) -> RawInstr
     ensures { result ≡ line_offer i low mode }
 {
@@ -49,6 +52,7 @@ fn line_offer(i: Instruction, low: u32, mode: Mode) -> RawInstr
 }
 
 // Two halfwords stand at the first and the third.
+#[tactic(auto, unfolding(crate::specs::Sheet::pair_offer))]
 fn pair_offer(h: u16, g: u16, low: u32, mode: Mode) -> RawInstr
     ensures { result ≡ pair_offer h g low mode }
 {
@@ -68,6 +72,7 @@ fn pair_offer(h: u16, g: u16, low: u32, mode: Mode) -> RawInstr
 
 impl Record {
     // What a record offers at a byte of its four.
+    #[tactic(auto, unfolding(crate::specs::Sheet::offer_in))]
     fn offer(self, low: u32, mode: Mode) -> RawInstr
         ensures { result ≡ offer_in self low mode }
     {
@@ -80,6 +85,7 @@ impl Record {
 }
 
 // What a sheet offers at an address and mode.
+#[tactic(auto, unfolding(crate::specs::Sheet::offer_at))]
 pub fn offer_at(sheet: &[u8], pc: u32, mode: Mode) -> RawInstr
     ensures { result ≡ offer_at sheet.now pc mode }
 {

@@ -8,6 +8,7 @@ use crate::Record;
 use isa::Instruction;
 
 // Two bytes as 16 bits, high byte first.
+#[tactic(auto, unfolding(crate::specs::Records::both))]
 fn both(h: u8, l: u8) -> u16
     ensures { result ≡ both h l }
 {
@@ -26,6 +27,7 @@ fn signed(h: u8, l: u8) -> i16
 }
 
 // Every byte is zero.
+#[tactic(auto, unfolding(crate::specs::Records::zeros))]
 fn zeros(a: u8, b: u8, d: u8, e: u8) -> bool
     ensures { result ≡ zeros a b d e }
 {
@@ -33,6 +35,7 @@ fn zeros(a: u8, b: u8, d: u8, e: u8) -> bool
 }
 
 // The instruction, where its unused bytes are zero.
+#[tactic(auto, unfolding(crate::specs::Records::line_if))]
 fn line_if(zero: bool, i: Instruction) -> Record
     ensures { result ≡ line_if zero i }
 {
@@ -43,6 +46,7 @@ fn line_if(zero: bool, i: Instruction) -> Record
 }
 
 // 00 to 03.
+#[tactic(auto, unfolding(crate::specs::Records::plain_of))]
 fn plain_of(c: u8) -> Instruction
     ensures { result ≡ plain_of c }
 {
@@ -55,6 +59,7 @@ fn plain_of(c: u8) -> Instruction
 }
 
 // 10 to 1F: three registers.
+#[tactic(auto, unfolding(crate::specs::Records::three_of))]
 fn three_of(c: u8, rd: u8, rs1: u8, rs2: u8) -> Instruction
     ensures { result ≡ three_of c rd rs1 rs2 }
 {
@@ -79,6 +84,7 @@ fn three_of(c: u8, rd: u8, rs1: u8, rs2: u8) -> Instruction
 }
 
 // 20 to 28: two registers and 16 signed bits.
+#[tactic(auto, unfolding(crate::specs::Records::offset_of))]
 fn offset_of(c: u8, rd: u8, base: u8, offset: i16) -> Instruction
     ensures { result ≡ offset_of c rd base offset }
 {
@@ -108,6 +114,7 @@ fn offset_of(c: u8, rd: u8, base: u8, offset: i16) -> Instruction
 }
 
 // 30 to 33: a register and 16 bits.
+#[tactic(auto, unfolding(crate::specs::Records::half_of))]
 fn half_of(c: u8, a: u8, n: u16) -> Instruction
     ensures { result ≡ half_of c a n }
 {
@@ -120,6 +127,7 @@ fn half_of(c: u8, a: u8, n: u16) -> Instruction
 }
 
 // 40 to 43: a register.
+#[tactic(auto, unfolding(crate::specs::Records::jump_of))]
 fn jump_of(c: u8, rd: u8) -> Instruction
     ensures { result ≡ jump_of c rd }
 {
@@ -132,6 +140,7 @@ fn jump_of(c: u8, rd: u8) -> Instruction
 }
 
 // 50 to 54: 16 bits, of which all but SYSCALL's are signed.
+#[tactic(auto, unfolding(crate::specs::Records::far_of))]
 fn far_of(c: u8, h: u8, l: u8) -> Instruction
     ensures { result ≡ far_of c (both h l) }
 {
@@ -146,6 +155,7 @@ fn far_of(c: u8, h: u8, l: u8) -> Instruction
 }
 
 // The record of a command byte and four operand bytes.
+#[tactic(auto, unfolding(crate::specs::Records::within))]
 pub(crate) fn record_of(c: u8, a: u8, b: u8, d: u8, e: u8) -> Record
     ensures { result ≡ record_of c a b d e }
 {

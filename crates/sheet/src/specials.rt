@@ -6,6 +6,7 @@ ghost use Rattle.sheet.specs.Sheet.{table_of};
 use isa::{Inquiry, Special};
 
 // What the table says of register k; past its end there is no such register.
+#[tactic(auto, unfolding(crate::specs::Sheet::table_of))]
 fn word_at(table: &[u32], k: usize) -> Special
     ensures { result ≡ table_of table.now k }
 {
@@ -16,6 +17,7 @@ fn word_at(table: &[u32], k: usize) -> Special
 }
 
 // What the table says of the special register that is asked for.
+#[tactic(auto, unfolding(isa::specs::Inquiries::look_up))]
 pub fn special_at(table: &[u32], inquiry: Inquiry) -> Special
     ensures { result ≡ look_up (table_of table.now) inquiry }
 {

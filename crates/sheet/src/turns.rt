@@ -5,6 +5,7 @@ ghost use Rattle.sheet.specs.Turns.{turn_by};
 use crate::{End, Turn};
 
 // A turn by five tests: running, limit used up, 12, 13, a load wanted and no answer left.
+#[tactic(auto, unfolding(crate::specs::Turns::turn_by))]
 pub fn turn_by(running: bool, spent: bool, faulty: bool, full: bool, unanswered: bool) -> Turn
     ensures { result ≡ turn_by running spent faulty full unanswered }
 {

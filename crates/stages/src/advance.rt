@@ -24,6 +24,7 @@ fn one_less(n: u32) -> u32
 }
 
 // IF/ID behind a used load: emptied where the tick redirects.
+#[tactic(auto, unfolding(word::specs::Words::bit))]
 fn stalled(redirects: bool, f: IfId) -> IfId
     ensures { result ≡ cond redirects (cleared f) f }
 {
@@ -35,6 +36,7 @@ fn stalled(redirects: bool, f: IfId) -> IfId
 
 impl Stages {
     // The next IF/ID; a machine that has halted fetches nothing.
+    #[tactic(auto, unfolding(crate::specs::Fetch::fetched))]
     fn fetch(self, place: Place, raw: RawInstr) -> IfId
         ensures { result ≡ fetched self.running self.if_id place raw }
     {
@@ -52,6 +54,7 @@ impl Stages {
     }
 
     // A wait in EX goes on.
+    #[tactic(auto, unfolding(crate::specs::Advance::advance_by, crate::specs::Advance::id_ex_after, crate::specs::Advance::if_id_after, crate::specs::Move::is_wait, crate::specs::Advance::wait_after, crate::specs::Advance::place_after))]
     fn keep_waiting(mut self, ex_mem: ExMem, taken: Taken) -> Stages
         ensures { result ≡ advance_by keep_waiting ex_mem self.id_ex self.fetch_at self taken }
     {
@@ -64,6 +67,7 @@ impl Stages {
     }
 
     // The stages after a wait that goes on: nothing leaves EX and nothing is fetched.
+    #[tactic(auto, unfolding(crate::specs::Plans::waited))]
     pub fn wait(self, taken: Taken) -> Stages
         ensures { result ≡ waited self taken }
     {
@@ -71,6 +75,7 @@ impl Stages {
     }
 
     // A wait in EX begins.
+    #[tactic(auto, unfolding(crate::specs::Advance::advance_by, crate::specs::Advance::id_ex_after, crate::specs::Advance::if_id_after, crate::specs::Move::is_wait, crate::specs::Advance::wait_after, crate::specs::Advance::place_after))]
     fn begin_wait(mut self, ex_mem: ExMem, taken: Taken) -> Stages
         ensures { result ≡ advance_by begin_wait ex_mem self.id_ex self.fetch_at self taken }
     {
@@ -85,6 +90,7 @@ impl Stages {
     }
 
     // IF/ID is decoded and the place fetched from; a wait that was under way has ended.
+    #[tactic(auto, unfolding(crate::specs::Advance::advance_by, crate::specs::Advance::id_ex_after, crate::specs::Advance::if_id_after, crate::specs::Move::is_wait, crate::specs::Advance::wait_after, crate::specs::Advance::place_after))]
     fn proceed(mut self, ex_mem: ExMem, id_ex: IdEx, place: Place, taken: Taken) -> Stages
         ensures { result ≡ advance_by proceed ex_mem id_ex place self taken }
     {
@@ -107,6 +113,7 @@ impl Stages {
     }
 
     // The front end is held behind a used load; a redirect still takes effect.
+    #[tactic(auto, unfolding(crate::specs::Advance::advance_by, crate::specs::Advance::id_ex_after, crate::specs::Advance::if_id_after, crate::specs::Move::is_wait, crate::specs::Advance::wait_after, crate::specs::Advance::place_after, crate::specs::Fetch::place_or))]
     fn load_use_stall(self, way: Redirect, ex_mem: ExMem, taken: Taken) -> Stages
         ensures { result ≡ advance_by (load_use_stall way) ex_mem self.id_ex self.fetch_at self taken }
     {
@@ -124,6 +131,7 @@ impl Stages {
     }
 
     // What was decoded and what is fetched are both flushed.
+    #[tactic(auto, unfolding(crate::specs::Advance::advance_by, crate::specs::Advance::id_ex_after, crate::specs::Advance::if_id_after, crate::specs::Move::is_wait, crate::specs::Advance::wait_after, crate::specs::Advance::place_after))]
     fn redirect(self, pc: u32, mode: Mode, ex_mem: ExMem, place: Place, taken: Taken) -> Stages
         ensures { result ≡ advance_by (redirect pc mode) ex_mem self.id_ex place self taken }
     {
@@ -137,6 +145,7 @@ impl Stages {
     }
 
     // The stages after the move of a plan, with the next EX/MEM so far.
+    #[tactic(auto, unfolding(crate::specs::Inner::move_on, crate::specs::Advance::advance_by, crate::specs::Advance::id_ex_after, crate::specs::Advance::if_id_after, crate::specs::Move::is_wait, crate::specs::Advance::wait_after, crate::specs::Advance::place_after))]
     fn move_on(self, plan: Plan, taken: Taken, reg: &[u32; 32]) -> Stages
         ensures { result ≡ move_on plan self reg.now taken }
     {
@@ -154,6 +163,7 @@ impl Stages {
     }
 
     // The stages after the move of a plan.
+    #[tactic(auto, unfolding(crate::specs::Plans::advance_plan, crate::specs::Plans::said_ex_mem, crate::specs::Inner::move_on, crate::specs::Advance::advance_by))]
     pub fn advance(self, plan: Plan, taken: Taken, reg: &[u32; 32]) -> Stages
         ensures { result ≡ advance_plan plan self reg.now taken }
     {

@@ -8,6 +8,7 @@ ghost use Rattle.stages.specs.Inner.{Tells, TellsAll};
 use crate::{Counters, Move};
 
 // A counter at its top.
+#[tactic(auto, unfolding(crate::specs::Counting::is_full))]
 fn at_top(n: u64) -> bool
     ensures { Tells n result }
 {
@@ -15,6 +16,7 @@ fn at_top(n: u64) -> bool
 }
 
 // One more, where `on` holds.
+#[tactic(auto, unfolding(word::specs::Words::bit))]
 fn more(on: bool, n: u64) -> u64
     requires { n < 18446744073709551615 }
     ensures { result ≡ n + bit on }
@@ -27,6 +29,7 @@ fn more(on: bool, n: u64) -> u64
 
 impl Move {
     // The front end is held.
+    #[tactic(auto, unfolding(crate::specs::Counting::stalls))]
     pub(crate) fn stalls(self) -> bool
         ensures { result ≡ stalls self }
     {
@@ -40,6 +43,7 @@ impl Move {
     }
 
     // The two younger latches are emptied.
+    #[tactic(auto, unfolding(crate::specs::Counting::flushes))]
     fn flushes(self) -> bool
         ensures { result ≡ flushes self }
     {
@@ -71,6 +75,7 @@ impl Counters {
     }
 
     // A machine that does not run. Here as in the next two, a full counter leaves all as they are.
+    #[tactic(auto, unfolding(crate::specs::Counting::unless_full, crate::specs::Counting::count_idle))]
     pub fn idle(mut self) -> Counters
         ensures { result ≡ unless_full self (count_idle self) }
     {
@@ -82,6 +87,7 @@ impl Counters {
     }
 
     // MEM/WB has retired.
+    #[tactic(auto, unfolding(crate::specs::Counting::unless_full, crate::specs::Counting::count_retired))]
     pub fn retire(mut self, valid: bool) -> Counters
         ensures { result ≡ unless_full self (count_retired valid self) }
     {
@@ -93,6 +99,7 @@ impl Counters {
     }
 
     // A tick that moves.
+    #[tactic(auto, unfolding(crate::specs::Counting::unless_full, crate::specs::Counting::counted, crate::specs::Counting::count_retired))]
     pub fn count(mut self, valid: bool, step: Move) -> Counters
         ensures { result ≡ unless_full self (counted step (count_retired valid self)) }
     {

@@ -13,6 +13,7 @@ use latch::execute::mispredict;
 use latch::{ExMem, IdEx, IfId};
 
 // The next EX/MEM.
+#[tactic(auto, unfolding(crate::specs::Execute::executed_by))]
 pub(crate) fn executed_by(d: IdEx, e: Effect) -> ExMem
     ensures { result ≡ executed_by d e }
 {
@@ -23,6 +24,7 @@ pub(crate) fn executed_by(d: IdEx, e: Effect) -> ExMem
 }
 
 // The redirect of this tick.
+#[tactic(auto, unfolding(crate::specs::Execute::redirect_by))]
 pub(crate) fn redirect_by(d: IdEx, e: Effect) -> Redirect
     ensures { result ≡ redirect_by d e }
 {
@@ -35,6 +37,7 @@ pub(crate) fn redirect_by(d: IdEx, e: Effect) -> Redirect
 }
 
 // The special register that ID/EX asks for.
+#[tactic(auto, unfolding(crate::specs::Execute::inquiry_by))]
 pub(crate) fn inquiry_by(d: IdEx, e: Effect) -> Inquiry
     ensures { result ≡ inquiry_by d e }
 {
@@ -45,6 +48,7 @@ pub(crate) fn inquiry_by(d: IdEx, e: Effect) -> Inquiry
 }
 
 // A multiply or divide in ID/EX.
+#[tactic(auto, unfolding(crate::specs::Move::is_slow))]
 pub(crate) fn is_slow(d: IdEx) -> bool
     ensures { result ≡ is_slow d }
 {
@@ -62,6 +66,7 @@ fn predict_if(valid: bool, o: Operands, pc: u32, mode: Mode) -> Redirect
 }
 
 // IF/ID decoded, with its operands and the prediction.
+#[tactic(auto, unfolding(crate::specs::Plans::front_of, crate::specs::Fetch::predicted, isa::specs::Waits::predict))]
 pub(crate) fn front_of(f: IfId) -> Front
     ensures { result ≡ front_of f }
 {
@@ -77,6 +82,7 @@ pub(crate) fn front_of(f: IfId) -> Front
 }
 
 // The next ID/EX.
+#[tactic(auto, unfolding(crate::specs::Plans::id_ex_from))]
 pub(crate) fn id_ex_from(f: IfId, front: Front, reg: &[u32; 32]) -> IdEx
     ensures { result ≡ id_ex_from f front reg.now }
 {
@@ -91,6 +97,7 @@ pub(crate) fn id_ex_from(f: IfId, front: Front, reg: &[u32; 32]) -> IdEx
 }
 
 // A used load first, then the redirect.
+#[tactic(auto, unfolding(crate::specs::Move::move_from, crate::specs::Move::proceed_or))]
 pub(crate) fn move_from(used: bool, way: Redirect) -> Move
     ensures { result ≡ move_from used way }
 {
@@ -104,6 +111,7 @@ pub(crate) fn move_from(used: bool, way: Redirect) -> Move
 }
 
 // The place that a move fetches from: predicted only where the tick does not redirect.
+#[tactic(auto, unfolding(crate::specs::Fetch::fetch_from, crate::specs::Fetch::place_or))]
 pub(crate) fn place_from(step: Move, predicted: Redirect, at: Place) -> Place
     ensures { result ≡ fetch_from step predicted at }
 {

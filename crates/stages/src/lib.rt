@@ -19,6 +19,8 @@
 // - Counters::idle: a running tick counted; a full counter that starts again at 0.
 // - Counters::retire: a tick counted; an invalid MEM/WB counted as retired.
 // - Counters::count: a flush counted as a stall; a full counter that starts again at 0.
+#![tactic(auto)]
+
 mod advance;
 mod counting;
 mod execute;

@@ -14,6 +14,7 @@ use latch::execute::effect_from;
 
 impl Stages {
     // A wait in EX with more than one tick left.
+    #[tactic(auto, unfolding(crate::specs::Move::waits_on))]
     pub fn waits_on(self) -> bool
         ensures { result ≡ waits_on self }
     {
@@ -21,6 +22,7 @@ impl Stages {
     }
 
     // The instruction in IF/ID, with these operands, uses the load in ID/EX.
+    #[tactic(auto, unfolding(crate::specs::Inner::uses_load))]
     fn uses_load(self, o: Operands) -> bool
         ensures { result ≡ uses_load self o }
     {
@@ -30,6 +32,7 @@ impl Stages {
     }
 
     // A multiply or divide begins its wait.
+    #[tactic(auto, unfolding(crate::specs::Move::begins_wait))]
     fn begins_wait(self, used: bool) -> bool
         ensures { result ≡ begins_wait self used }
     {
@@ -38,6 +41,7 @@ impl Stages {
     }
 
     // A wait begins: nothing leaves EX and nothing is fetched.
+    #[tactic(auto, unfolding(crate::specs::Inner::held_plan))]
     fn held_plan(self, front: Front) -> Plan
         ensures { result ≡ held_plan self front }
     {
@@ -52,6 +56,7 @@ impl Stages {
     }
 
     // No wait: ID/EX executes.
+    #[tactic(auto, unfolding(crate::specs::Inner::moved_plan, crate::specs::Execute::redirect_of, crate::specs::Execute::inquiry_of, crate::specs::Execute::effect_for))]
     fn moved_plan(self, used: bool, front: Front, reg: &[u32; 32]) -> Plan
         ensures { result ≡ moved_plan self reg.now used front }
     {

@@ -7,6 +7,7 @@ use crate::Stages;
 
 impl Stages {
     // A latch out of its bounds, or a wait above 15.
+    #[tactic(auto, unfolding(crate::specs::Refusals::out_of_bounds))]
     pub fn out_of_bounds(self) -> bool
         ensures { result ≡ out_of_bounds self }
     {
@@ -19,6 +20,7 @@ impl Stages {
     }
 
     // Whether a tick moves anything.
+    #[tactic(auto, unfolding(crate::specs::Advance::awake))]
     pub fn is_awake(self) -> bool
         ensures { result ≡ awake self }
     {
@@ -26,6 +28,7 @@ impl Stages {
     }
 
     // Running, and MEM/WB holds an exception, MTSR or IRET.
+    #[tactic(auto, unfolding(crate::specs::Refusals::faulty))]
     pub fn is_faulty(self) -> bool
         ensures { result ≡ faulty self }
     {

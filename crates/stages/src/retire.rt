@@ -8,6 +8,7 @@ use latch::{ExMem, IdEx};
 
 impl Stages {
     // The writes of MEM/WB and the retire place; HALT empties all younger latches and stops the machine.
+    #[tactic(auto, unfolding(crate::specs::Retire::retire_stages))]
     pub fn retire(mut self, reg: &mut [u32; 32]) -> Stages
         ensures value { result ≡ retire_stages self }
         ensures reg_after { reg.new ≡ retired_regs self.mem_wb self.features reg.old }

@@ -8,6 +8,7 @@ use crate::{Move, Plan, Stages};
 
 impl Move {
     // A move that does not hold the front end fetches, a redirect too.
+    #[tactic(auto, unfolding(crate::specs::Fetch::fetches))]
     fn fetches(self) -> bool
         ensures { result ≡ fetches self }
     {
@@ -17,6 +18,7 @@ impl Move {
 
 impl Stages {
     // Whether this plan fetches; a machine that has halted does not.
+    #[tactic(auto, unfolding(crate::specs::Plans::plan_fetches))]
     pub fn fetches(self, plan: Plan) -> bool
         ensures { result ≡ plan_fetches self plan }
     {
@@ -25,6 +27,7 @@ impl Stages {
     }
 
     // Whether EX/MEM asks for a load.
+    #[tactic(auto, unfolding(crate::specs::Loads::loads_in))]
     pub fn loads(self) -> bool
         ensures { result ≡ loads_in self }
     {

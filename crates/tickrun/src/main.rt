@@ -1,4 +1,6 @@
 // Reads a step sheet from standard input, runs it and writes how it ended; to standard error, why it was refused.
+#![tactic(auto)]
+
 ghost use Rattle.std.specs.Prelude.{◌≡◌};
 ghost use Rattle.tickrun.specs.Outcome.{outcome};
 
@@ -7,6 +9,7 @@ use pipeline::PipelineCpu;
 use runs::Ran;
 
 // Runs a sheet, with no load answer and no special register.
+#[tactic(auto, unfolding(crate::specs::Outcome::outcome))]
 fn outcome(sheet: &[u8]) -> Ran
     ensures { result ≡ outcome sheet.now }
 {

@@ -14,6 +14,8 @@
 // - of_signed, add_signed: the offset zero-extended; the offset in words of 4 bytes.
 // - cut: one width less; the high bytes kept.
 // - arithmetic, src32_alu: SLA as SRA; 0 as the refusal of a command that does not exist.
+#![tactic(auto)]
+
 ghost use Rattle.std.specs.Prelude.{◌≡◌, ◌^◌, ◌<◌};
 ghost use Rattle.std.specs.Int.Signed.{mag};
 ghost use Rattle.word.specs.Command.{arithmetic32, command32};
@@ -43,6 +45,7 @@ fn low(z: i64) -> u32
 }
 
 // The sum, which wraps.
+#[tactic(auto, unfolding(crate::specs::Words::add32))]
 pub fn add(a: u32, b: u32) -> u32
     ensures { result ≡ add32 a b }
 {
@@ -50,6 +53,7 @@ pub fn add(a: u32, b: u32) -> u32
 }
 
 // The difference, which wraps.
+#[tactic(auto, unfolding(crate::specs::Words::sub32))]
 pub fn sub(a: u32, b: u32) -> u32
     ensures { result ≡ sub32 a b }
 {
@@ -64,24 +68,28 @@ pub fn of_signed(offset: i16) -> u32
 }
 
 // A base or address and a signed offset in bytes.
+#[tactic(auto, unfolding(crate::specs::Words::offset32, crate::specs::Words::add32))]
 pub fn add_signed(base: u32, offset: i16) -> u32
     ensures { result ≡ offset32 base offset }
 {
     std::num::wrapping_add_u32(base, of_signed(offset))
 }
 
+#[tactic(auto, unfolding(crate::specs::Words::and32))]
 pub fn and(a: u32, b: u32) -> u32
     ensures { result ≡ and32 a b }
 {
     a & b
 }
 
+#[tactic(auto, unfolding(crate::specs::Words::or32))]
 pub fn or(a: u32, b: u32) -> u32
     ensures { result ≡ or32 a b }
 {
     a | b
 }
 
+#[tactic(auto, unfolding(crate::specs::Words::xor32))]
 pub fn xor(a: u32, b: u32) -> u32
     ensures { result ≡ xor32 a b }
 {
@@ -89,18 +97,21 @@ pub fn xor(a: u32, b: u32) -> u32
 }
 
 // SLL, and SLA too.
+#[tactic(auto, unfolding(crate::specs::Words::sll32))]
 pub fn sll(a: u32, b: u32) -> u32
     ensures { result ≡ sll32 a b }
 {
     a << (b % 32)
 }
 
+#[tactic(auto, unfolding(crate::specs::Words::srl32))]
 pub fn srl(a: u32, b: u32) -> u32
     ensures { result ≡ srl32 a b }
 {
     a >> (b % 32)
 }
 
+#[tactic(auto, unfolding(crate::specs::Words::sra32))]
 pub fn sra(a: u32, b: u32) -> u32
     ensures { result ≡ sra32 a b }
 {
@@ -109,6 +120,7 @@ pub fn sra(a: u32, b: u32) -> u32
     low(x >> n)
 }
 
+#[tactic(auto, unfolding(crate::specs::Words::slt32, crate::specs::Words::bit))]
 pub fn slt(a: u32, b: u32) -> u32
     ensures { result ≡ slt32 a b }
 {
@@ -120,6 +132,7 @@ pub fn slt(a: u32, b: u32) -> u32
     0
 }
 
+#[tactic(auto, unfolding(crate::specs::Words::sltu32, crate::specs::Words::bit))]
 pub fn sltu(a: u32, b: u32) -> u32
     ensures { result ≡ sltu32 a b }
 {
@@ -130,6 +143,7 @@ pub fn sltu(a: u32, b: u32) -> u32
 }
 
 // The low word of the product.
+#[tactic(auto, unfolding(crate::specs::Words::mul32))]
 pub fn mul(a: u32, b: u32) -> u32
     ensures { result ≡ mul32 a b }
 {
@@ -138,6 +152,7 @@ pub fn mul(a: u32, b: u32) -> u32
 }
 
 // The high word of the signed product.
+#[tactic(auto, unfolding(crate::specs::Words::mulh32))]
 pub fn mulh(a: u32, b: u32) -> u32
     ensures { result ≡ mulh32 a b }
 {
@@ -147,6 +162,7 @@ pub fn mulh(a: u32, b: u32) -> u32
 }
 
 // The signed quotient, cut toward zero; 0 for a zero divisor.
+#[tactic(auto, unfolding(crate::specs::Words::div32))]
 pub fn div(a: u32, b: u32) -> u32
     ensures { result ≡ div32 a b }
 {
@@ -159,6 +175,7 @@ pub fn div(a: u32, b: u32) -> u32
 }
 
 // The unsigned quotient; 0 for a zero divisor.
+#[tactic(auto, unfolding(crate::specs::Words::divu32))]
 pub fn divu(a: u32, b: u32) -> u32
     ensures { result ≡ divu32 a b }
 {
@@ -169,6 +186,7 @@ pub fn divu(a: u32, b: u32) -> u32
 }
 
 // The remainder of the signed division, MOD; 0 for a zero divisor.
+#[tactic(auto, unfolding(crate::specs::Words::mod32))]
 pub fn rem(a: u32, b: u32) -> u32
     ensures { result ≡ mod32 a b }
 {
@@ -181,6 +199,7 @@ pub fn rem(a: u32, b: u32) -> u32
 }
 
 // LDIL: the low half replaced by the low half of `i`.
+#[tactic(auto, unfolding(crate::specs::Words::ldil32))]
 pub fn ldil(a: u32, i: u32) -> u32
     ensures { result ≡ ldil32 a i }
 {
@@ -188,6 +207,7 @@ pub fn ldil(a: u32, i: u32) -> u32
 }
 
 // LDIH: the high half replaced by the low half of `i`.
+#[tactic(auto, unfolding(crate::specs::Words::ldih32))]
 pub fn ldih(a: u32, i: u32) -> u32
     ensures { result ≡ ldih32 a i }
 {
@@ -195,6 +215,7 @@ pub fn ldih(a: u32, i: u32) -> u32
 }
 
 // A word cut to a width in bytes.
+#[tactic(auto, unfolding(crate::specs::Words::cut32))]
 pub fn cut(width: u8, v: u32) -> u32
     ensures { result ≡ cut32 width v }
 {
@@ -212,6 +233,7 @@ fn wide(x: u32) -> u64
 }
 
 // The arithmetic of the commands 10 to 1F of the step sheet; 0 for any other.
+#[tactic(auto, unfolding(crate::specs::Command::arithmetic32))]
 pub fn arithmetic(command: u32, a: u32, b: u32) -> u32
     ensures { result ≡ arithmetic32 command a b }
 {
@@ -238,6 +260,7 @@ pub fn arithmetic(command: u32, a: u32, b: u32) -> u32
 
 // The same for C, with refusal 5 for any other command.
 #[unsafe(no_mangle)]
+#[tactic(auto, unfolding(crate::specs::Command::command32))]
 pub extern "C" fn src32_alu(command: u32, a: u32, b: u32) -> u64
     ensures { result ≡ command32 command a b }
 {

@@ -1,9 +1,0 @@
--- `compare::play::run_with` is safe. Assumes nothing.
-use Rattle.std.proofs.Common.{arith, length-take, rules}
-use Rattle.compare.proofs.play.run_with.Statement.{statement}
-use Rattle.compare.proofs.play.run_with.Tie as tie
-
-pub run_with_spec : {M : Type 1} → statement M
-run_with_spec = tie.close (tie.spec
-    (λ c κs. search rules) (λ c. search rules) (λ c. simp length-take (omega arith)) (λ c κs. search rules)
-    (λ c. search rules) (λ c. search rules))
