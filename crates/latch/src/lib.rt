@@ -48,7 +48,7 @@ ghost use Rattle.latch.specs.Latches.{empty_ex_mem, empty_id_ex, empty_if_id, em
 use isa::{Decoded, Dest, Exception, Instruction, Mode, Mtsr, NewMode, RawInstr};
 
 // Between fetch and decode.
-#[derive(Drop)]
+#[derive(Clone, Copy)]
 pub struct IfId {
     pub valid: bool,
     pub pc: u32,
@@ -57,7 +57,7 @@ pub struct IfId {
 }
 
 // Between decode and execute. `op_a` and `op_b` are the register values sampled at decode.
-#[derive(Drop)]
+#[derive(Clone, Copy)]
 pub struct IdEx {
     pub valid: bool,
     pub pc: u32,
@@ -76,7 +76,7 @@ pub struct IdEx {
 }
 
 // Between execute and memory. `mem_size` is the width in bytes, 0 for no request.
-#[derive(Drop)]
+#[derive(Clone, Copy)]
 pub struct ExMem {
     pub valid: bool,
     pub pc: u32,
@@ -102,7 +102,7 @@ pub struct ExMem {
 }
 
 // Between memory and retirement.
-#[derive(Drop)]
+#[derive(Clone, Copy)]
 pub struct MemWb {
     pub valid: bool,
     pub pc: u32,

@@ -50,7 +50,7 @@ impl ExMem {
     }
 
     // The next MEM/WB; a load takes its answer whole. Most instructions ask for nothing.
-    #[tactic(auto, unfolding(crate::specs::Memory::mem_wb_of))]
+    #[tactic(auto, unfolding(crate::specs::Memory::mem_wb_of, crate::specs::Memory::passed_on, crate::specs::Memory::loads, crate::specs::Memory::stores, crate::specs::Memory::dest_after, crate::specs::Memory::writes_after, crate::specs::Memory::value_after))]
     pub fn mem_wb(self, answer: u32) -> MemWb
         ensures { result ≡ mem_wb_of self answer }
     {

@@ -10,7 +10,7 @@
 pub mod choice;
 
 // The places that a value comes from.
-#[derive(Drop)]
+#[derive(Clone, Copy)]
 pub enum Origin {
     ZeroRegister,
     ExMem,
@@ -21,7 +21,7 @@ pub enum Origin {
 }
 
 // The origins of operand A and operand B.
-#[derive(Drop)]
+#[derive(Clone, Copy)]
 pub struct Origins {
     pub a: Origin,
     pub b: Origin,

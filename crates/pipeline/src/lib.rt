@@ -30,7 +30,7 @@ use origin::{Origin, Origins};
 use stages::{Counters, Stages};
 
 // The state: registers, stages, counters.
-#[derive(Drop)]
+#[derive(Clone, Copy)]
 pub struct PipelineCpu {
     pub reg: [u32; 32],
     pub stages: Stages,
@@ -38,21 +38,21 @@ pub struct PipelineCpu {
 }
 
 // What the caller offers for a fetch: Nothing, or a Normal or Short instruction.
-#[derive(Drop)]
+#[derive(Clone, Copy)]
 pub enum Offer {
     Nothing,
     Instr(RawInstr),
 }
 
 // The answer to a load, or none.
-#[derive(Drop)]
+#[derive(Clone, Copy)]
 pub enum Answer {
     None,
     Word(u32),
 }
 
 // What a tick is given.
-#[derive(Drop)]
+#[derive(Clone, Copy)]
 pub struct Given {
     pub offer: Offer,
     pub answer: Answer,
@@ -60,35 +60,35 @@ pub struct Given {
 }
 
 // How a tick ended.
-#[derive(Drop)]
+#[derive(Clone, Copy)]
 pub enum Outcome {
     Accepted,
     Refused(u32),
 }
 
 // The state handed back by a tick: the next one, or the very state given where the tick was refused.
-#[derive(Drop)]
+#[derive(Clone, Copy)]
 pub struct Ticked {
     pub state: PipelineCpu,
     pub outcome: Outcome,
 }
 
 // The place that a tick fetches from.
-#[derive(Drop)]
+#[derive(Clone, Copy)]
 pub enum Fetch {
     None,
     From(u32, Mode),
 }
 
 // The origins that a tick's execution will pass on, or none.
-#[derive(Drop)]
+#[derive(Clone, Copy)]
 pub enum Shown {
     None,
     Both(Origins),
 }
 
 // What a tick will want, and the origins that its execution will pass on.
-#[derive(Drop)]
+#[derive(Clone, Copy)]
 pub struct Wanted {
     pub fetch: Fetch,
     pub request: Request,
@@ -97,21 +97,21 @@ pub struct Wanted {
 }
 
 // The answer of asking.
-#[derive(Drop)]
+#[derive(Clone, Copy)]
 pub enum Asked {
     Refused(u32),
     Wants(Wanted),
 }
 
 // The answer of `forwarded` by itself: a value and its origin.
-#[derive(Drop)]
+#[derive(Clone, Copy)]
 pub enum Forwarded {
     Refused(u32),
     Word(u32, Origin),
 }
 
 // The next EX/MEM of a latch, the way that its instruction goes, and the origins of its operands.
-#[derive(Drop)]
+#[derive(Clone, Copy)]
 pub struct Execution {
     pub ex_mem: ExMem,
     pub redirect: Redirect,
@@ -119,28 +119,28 @@ pub struct Execution {
 }
 
 // The answer of `execute_ex` by itself.
-#[derive(Drop)]
+#[derive(Clone, Copy)]
 pub enum Executed {
     Refused(u32),
     Done(Execution),
 }
 
 // The answer of `decode_id` by itself.
-#[derive(Drop)]
+#[derive(Clone, Copy)]
 pub enum DecodedId {
     Refused(u32),
     Latch(IdEx),
 }
 
 // The answer of `id_sources` by itself.
-#[derive(Drop)]
+#[derive(Clone, Copy)]
 pub enum Sources {
     Refused(u32),
     Two(u8, u8),
 }
 
 // The answer of `is_mul_div` by itself.
-#[derive(Drop)]
+#[derive(Clone, Copy)]
 pub enum MulDiv {
     Refused(u32),
     None,
@@ -148,7 +148,7 @@ pub enum MulDiv {
 }
 
 // The answer of `load_use_hazard` by itself.
-#[derive(Drop)]
+#[derive(Clone, Copy)]
 pub enum Hazard {
     Refused(u32),
     Waits(bool),

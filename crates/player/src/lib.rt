@@ -22,7 +22,7 @@ use sheet::answers::{answer_at, used_after};
 use sheet::check::check_limited;
 
 // How a play ends.
-#[derive(Drop)]
+#[derive(Clone, Copy)]
 pub enum PlayerEnd {
     Halted,
     Spent,
@@ -32,7 +32,7 @@ pub enum PlayerEnd {
 }
 
 // What the player reports: the end, a start's values then, the instructions done and the load answers used.
-#[derive(Drop)]
+#[derive(Clone, Copy)]
 pub struct Played {
     pub end: PlayerEnd,
     pub values: Start,
@@ -41,7 +41,7 @@ pub struct Played {
 }
 
 // The instruction of an address and mode, decoded, and what it names.
-#[derive(Drop)]
+#[derive(Clone, Copy)]
 pub struct Slot {
     pub pc: u32,
     pub mode: Mode,

@@ -3,7 +3,7 @@ use pipeline::PipelineCpu;
 use sheet::End;
 
 // What the runner reports: the end, the ticks used, and the state then.
-#[derive(Drop)]
+#[derive(Clone, Copy)]
 pub struct Ran {
     pub end: End,
     pub ticks: u32,

@@ -22,7 +22,7 @@ pub mod turns;
 use isa::Instruction;
 
 // A record: a Normal instruction, a pair of short halfwords, or neither.
-#[derive(Drop)]
+#[derive(Clone, Copy)]
 pub enum Record {
     None,
     Line(Instruction),
@@ -30,7 +30,7 @@ pub enum Record {
 }
 
 // How a run ends.
-#[derive(Drop)]
+#[derive(Clone, Copy)]
 pub enum End {
     Halted,
     Spent,
@@ -39,7 +39,7 @@ pub enum End {
 }
 
 // What a turn of a run does.
-#[derive(Drop)]
+#[derive(Clone, Copy)]
 pub enum Turn {
     Ends(End),
     Ticks,

@@ -16,6 +16,7 @@ fn both(h: u8, l: u8) -> u16
 }
 
 // The same, signed.
+#[tactic(auto, unfolding(isa::specs::Short::low_bits))]
 fn signed(h: u8, l: u8) -> i16
     ensures { result ≡ low_bits 15 (both h l) }
 {
@@ -155,7 +156,7 @@ fn far_of(c: u8, h: u8, l: u8) -> Instruction
 }
 
 // The record of a command byte and four operand bytes.
-#[tactic(auto, unfolding(crate::specs::Records::within))]
+#[tactic(auto, unfolding(crate::specs::Records::within, crate::specs::Records::record_of))]
 pub(crate) fn record_of(c: u8, a: u8, b: u8, d: u8, e: u8) -> Record
     ensures { result ≡ record_of c a b d e }
 {

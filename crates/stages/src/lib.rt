@@ -33,7 +33,7 @@ use isa::{Decoded, Inquiry, Mode, Operands, RawInstr, Redirect, Special};
 use latch::{ExMem, IdEx, IfId, MemWb};
 
 // Fetch and retire place, latches, and the wait in EX.
-#[derive(Drop)]
+#[derive(Clone, Copy)]
 pub struct Stages {
     pub fetch_at: Place,
     pub retire_at: Place,
@@ -49,7 +49,7 @@ pub struct Stages {
 }
 
 // What is counted: ticks, running ticks, instructions retired, stalls, flushes.
-#[derive(Drop)]
+#[derive(Clone, Copy)]
 pub struct Counters {
     pub cycles: u64,
     pub running_cycles: u64,
@@ -59,7 +59,7 @@ pub struct Counters {
 }
 
 // What a tick takes in: the load's answer, the instruction offered, and what is said of a special register.
-#[derive(Drop)]
+#[derive(Clone, Copy)]
 pub struct Taken {
     pub answer: u32,
     pub raw: RawInstr,
@@ -68,7 +68,7 @@ pub struct Taken {
 
 // What the rest of a tick does once MEM/WB has retired: continue or begin a wait in EX, hold the front
 // end behind a used load, go on, or redirect.
-#[derive(Drop)]
+#[derive(Clone, Copy)]
 pub enum Move {
     KeepWaiting,
     BeginWait,
@@ -78,14 +78,14 @@ pub enum Move {
 }
 
 // An address and its mode.
-#[derive(Drop)]
+#[derive(Clone, Copy)]
 pub struct Place {
     pub pc: u32,
     pub mode: Mode,
 }
 
 // What IF/ID holds, decoded, with its operands and the prediction.
-#[derive(Drop)]
+#[derive(Clone, Copy)]
 pub struct Front {
     pub decoded: Decoded,
     pub operands: Operands,
@@ -94,7 +94,7 @@ pub struct Front {
 
 // What a tick plans once MEM/WB has retired: its move, the next EX/MEM, which stands only where no special register is
 // asked for, that register, the front, the place to fetch from.
-#[derive(Drop)]
+#[derive(Clone, Copy)]
 pub struct Plan {
     pub step: Move,
     pub ex_mem: ExMem,
