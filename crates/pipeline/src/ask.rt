@@ -49,8 +49,8 @@ fn origins_in(step: Move, l: Stages) -> Shown
 impl PipelineCpu {
     // What a tick that moves will want.
     fn wants(self) -> Wanted
-        requires stages_value { awake self.stages ≡ true }
-        requires counts_value { counter_full self.counts ≡ false }
+        requires moves { awake self.stages ≡ true }
+        requires room { counter_full self.counts ≡ false }
         ensures { result ≡ wanted self }
     {
         let mut reg = self.reg;

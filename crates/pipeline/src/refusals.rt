@@ -39,6 +39,7 @@ fn offer_code(offer: Offer) -> u32
 }
 
 // An offer of the mode that is wanted, or Nothing where no fetch is.
+#[tactic(auto, unfolding(crate::specs::Tick::fits_offer))]
 fn fits_offer(fetch: bool, mode: Mode, offer: Offer) -> bool
     ensures { result ≡ fits_offer fetch mode offer }
 {

@@ -77,8 +77,8 @@ impl PipelineCpu {
 
     // A tick that moves nothing.
     fn tick_resting(mut self, t: Given) -> Ticked
-        requires counts_value { counter_full self.counts ≡ false }
-        requires stages_value { awake self.stages ≡ false }
+        requires room { counter_full self.counts ≡ false }
+        requires rests { awake self.stages ≡ false }
         ensures { result ≡ ticked_on self t }
     {
         let k = t.code(false, Mode::Normal, false, Inquiry::None);
@@ -97,7 +97,7 @@ impl PipelineCpu {
     #[tactic(auto, unfolding(crate::specs::Inner::accepted_with))]
     fn tick_waiting(self, s: Stages, reg: [u32; 32], t: Given) -> Ticked
         requires retired { Retired self s reg }
-        requires s_value { waits_on s ≡ true }
+        requires waits { waits_on s ≡ true }
         ensures { result ≡ ticked_on self t }
     {
         let m = s.mem_wb;
@@ -115,7 +115,7 @@ impl PipelineCpu {
     #[tactic(auto, unfolding(crate::specs::Inner::accepted_with))]
     fn tick_planned(self, s: Stages, reg: [u32; 32], t: Given) -> Ticked
         requires retired { Retired self s reg }
-        requires s_value { waits_on s ≡ false }
+        requires free { waits_on s ≡ false }
         ensures { result ≡ ticked_on self t }
     {
         let m = s.mem_wb;
@@ -136,8 +136,8 @@ impl PipelineCpu {
 
     // A tick that moves: retire; then a wait goes on, or the tick is planned.
     fn tick_awake(self, t: Given) -> Ticked
-        requires counts_value { counter_full self.counts ≡ false }
-        requires stages_value { awake self.stages ≡ true }
+        requires room { counter_full self.counts ≡ false }
+        requires moves { awake self.stages ≡ true }
         ensures { result ≡ ticked_on self t }
     {
         let l = self.stages;
