@@ -109,12 +109,18 @@ effect_in_lem : (u : Bool) (l : IdEx) (x y : ℕ) → bad_width (effect_in u l x
 unfolding effect_in raises marked no_access bad_width
 effect_in_lem u l x y = split (is_exception l.exception) (λ e. rw e) (λ e. rw e (width_in u l.decoded l.pc x y))
 
+said_in : (c : Special) → bad_width (mfsr_with c).access.mem_size ≡ false
+unfolding mfsr_with raises marked gives goes_on no_access bad_width
+said_in Unsaid = refl
+said_in NoSuch = refl
+said_in (SpecialWord v) = refl
+
 -- what is said changes no width
 fill_in : (c : Special) (e : Effect) → bad_width e.access.mem_size ≡ false
     → bad_width (fill c e).access.mem_size ≡ false
-unfolding fill mfsr_with raises marked gives goes_on no_access bad_width
+unfolding fill
 fill_in c e h = split (is_inquiry e.inquiry)
-    (λ q. rw q (elim c [ Unsaid ↦ refl | NoSuch ↦ refl | SpecialWord v ↦ refl ]))
+    (λ q. rw q (said_in c))
     (λ q. rw q h)
 
 latch_in : (l : IdEx) (e : Effect) → bad_id_ex l ≡ false → bad_width e.access.mem_size ≡ false

@@ -113,7 +113,8 @@ not_odd_n u (Jrs rd) p n m x y = refl
 not_odd_n u (Jalr rd) p n m x y = refl
 not_odd_n u (Jalrs rd) p n m x y = refl
 not_odd_n u Cpuid p n m x y = refl
-not_odd_n u Halt p n m x y = elim u [ true ↦ refl | false ↦ refl ]
+not_odd_n true Halt p n m x y = refl
+not_odd_n false Halt p n m x y = refl
 not_odd_n u (And rd rs1 rs2) p n m x y = refl
 not_odd_n u (Or rd rs1 rs2) p n m x y = refl
 not_odd_n u (Xor rd rs1 rs2) p n m x y = refl
@@ -134,10 +135,13 @@ not_odd_n u (Sth rd base offset) p n m x y = refl
 not_odd_n u (Ldil rd imm) p n m x y = refl
 not_odd_n u (Ldih rd imm) p n m x y = refl
 not_odd_n u (Unknown high low) p n m x y = refl
-not_odd_n u Iret p n m x y = elim u [ true ↦ refl | false ↦ refl ]
+not_odd_n true Iret p n m x y = refl
+not_odd_n false Iret p n m x y = refl
 not_odd_n u (Syscall imm) p n m x y = refl
-not_odd_n u (Mfsr rd sr) p n m x y = elim u [ true ↦ refl | false ↦ refl ]
-not_odd_n u (Mtsr rs sr) p n m x y = elim u [ true ↦ refl | false ↦ refl ]
+not_odd_n true (Mfsr rd sr) p n m x y = refl
+not_odd_n false (Mfsr rd sr) p n m x y = refl
+not_odd_n true (Mtsr rs sr) p n m x y = refl
+not_odd_n false (Mtsr rs sr) p n m x y = refl
 
 not_odd_s : (i : ShortInstruction) (p n : ℕ) (m : Mode) (x y : ℕ)
     → odd Short (is_mul (DecShort i)) (is_div (DecShort i)) (operands_s i) (effect_s i n x y) (predict (DecShort i) p m)

@@ -510,11 +510,11 @@ module _ (prog : Program) (w₀ : Arch) where
           (fall (W n₂).pc (W n₂).mode) (W n₂).mode)
           (ap (λ (e : Effect). e.redirect) (effect_at_lem rs d) ∙ sym (way_at prog (W n₂)))
 
-      turn_at : (rs : List ℕ) → s.stages.id_ex ≡ dx_at prog (W n₂) rs → due prog w₀ n₂ ≡ t + 3 → redirect_of
+      turn_at_lem : (rs : List ℕ) → s.stages.id_ex ≡ dx_at prog (W n₂) rs → due prog w₀ n₂ ≡ t + 3 → redirect_of
           s.stages s.reg ≡ turn_at
           prog (W n₂)
       unfolding redirect_of redirect_by bend
-      turn_at rs e d = ap (λ (l : IdEx). bend l) e ∙ bend_at rs d
+      turn_at_lem rs e d = ap (λ (l : IdEx). bend l) e ∙ bend_at rs d
 
       execute_none : (c : Special) → s.stages.id_ex ≡ empty_id_ex → executed s.stages s.reg c ≡ empty_ex_mem
       unfolding executed executed_by run empty_id_ex
@@ -865,14 +865,14 @@ module _ (prog : Program) (w₀ : Arch) where
                 (λ h. let q = load_quick (I n₂) (hazard_load h) in
                 let d3 : due prog w₀ n₂ ≡ t + 3 = omega arith in
                 let mv = move_is false _ true _ Next a refl h refl
-                (turn_at rs dxe d3 ∙ load_turn prog (W n₂) (hazard_load h)) in
+                (turn_at_lem rs dxe d3 ∙ load_turn prog (W n₂) (hazard_load h)) in
                 by_move (load_use_stall Next) mv (go_stall d3 h mv))
                 (λ h. split (ltb 0 (waits (I n₂)))
                 (λ w. by_move begin_wait (move_is false _ false true _ a refl h (slow_is rs dxe ∙ w) refl)
                 (go_arm d (ltb-true 0 (waits (I n₂)) w)))
                 (λ w. let z = ltb-false 0 (waits (I n₂)) w in
                 let d3 : due prog w₀ n₂ ≡ t + 3 = omega arith in
-                let r = turn_at rs dxe d3 in
+                let r = turn_at_lem rs dxe d3 in
                 go_cases (turn_at prog (W n₂))
                 (λ e. let mv = move_is false (ltb 1 s.stages.ex_cycles_left) false false Next a refl h
                 (slow_is rs dxe ∙ w) (r ∙ e) in by_move proceed mv (go_flow d3 h e mv))
@@ -892,7 +892,7 @@ module _ (prog : Program) (w₀ : Arch) where
                 split (hazard s.stages)
                 (λ hz. absurd (false≢true (sym (slow_load (I n₂) ls) ∙ hazard_load hz)))
                 (λ hz. let mv = move_is true false false (ltb 0 (waits (I n₂))) Next a h hz (slow_is rs dxe)
-                (turn_at rs dxe d3 ∙ eo) in by_move proceed mv (go_flow d3 hz eo mv)))
+                (turn_at_lem rs dxe d3 ∙ eo) in by_move proceed mv (go_flow d3 hz eo mv)))
 
         go_front : FrontOf s t n₂ → Ahead (move_of s) inp
         go_front (f0 a b c p q d) = go_f0 a b c p q d
