@@ -20,6 +20,8 @@ NAME = re.compile(r"(?<![\w'-])[^\W\d][\w']*(?:-[\w']+)*")
 CAMEL = re.compile(r"[a-z][a-z0-9]*[A-Z]")
 DECLARED = re.compile(r"^ *(?:(?:abbrev|unfoldable|pub) )*([^\W\d][\w'-]*)(?: \{\w+\})? :(?:\s|$)", re.M)
 ALIAS = re.compile(r"s(?=(?:Mov|Add|Addi|Ld|St|Bz|Bnz|Jr|Jal|Ldi|Ret|Unknown)$)")
+# Lemmas that port.py spells as the definitions `leftAfter` and `handsOn` are spelled here.
+SAME = {"left_after", "hands_on"}
 WORDS = {"eqb": "◌==◌", "ltb": "nat_lt", "leb": "nat_le", "get_or": "slice_index"}
 
 
@@ -55,7 +57,7 @@ def new_names(texts):
         if "-" in n:
             to = snake(n).replace("-", "_")
             new[n] = to + "_lem" if to in taken and not to.endswith("_spec") else to
-    for n in {snake(n) for n in new if "-" not in n} & declared:
+    for n in SAME & declared:
         new[n] = n + "_lem"
     return new
 
