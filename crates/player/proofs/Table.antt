@@ -4,11 +4,11 @@ use borrow.Author.Tests.{eq-eqb, eqb-true}
 use lib.Dec.{eqb}
 use lib.ListN.{get_or, length, replicate, set}
 use lib.Seq.{get_or-set_same}
-use mathlib.Core.Bool.{Bool, cond, false, false≢true, not, true}
+use mathlib.Core.Bool.{Bool, cond, false, false≢true, true}
 use mathlib.Core.List.{List, [], ◌∷◌}
 use mathlib.Core.Path.{◌∙◌, ◌≡◌, ap, refl, sym}
 use native.Mathlib.Omega.{arith}
-use Rattle.isa.proofs.Bools.{both_l, both_r, un_not}
+use Rattle.isa.proofs.Bools.{both_l, both_r}
 use Rattle.isa.specs.Effect.{size}
 use Rattle.isa.specs.declared.Mode.TheVariants.{Normal, Short}
 use Rattle.player.specs.Inner.{Kept, is_at, place_of, slot_at}
@@ -55,10 +55,6 @@ pub place_in : (p : ℕ) → place_of p < 512
 unfolding place_of
 place_in p = omega arith
 
-not_true : (b : Bool) → not b ≡ true → b ≡ false
-not_true true e = sym e
-not_true false e = refl
-
 -- a slot is that of its own address and mode
 pub slot_own : (sheet : List ℕ) (s : Slot) (p : ℕ) (m : Mode) → s ≡ slot_at sheet p m
     → s ≡ slot_at sheet s.pc s.mode
@@ -82,7 +78,7 @@ to_go limit done there = 2 * (limit - done) + cond there 0 1
 
 -- a slot put in its place
 pub put_less : (sheet : List ℕ) (t : List Slot) (limit done k : ℕ) (d d' : Slot) (p : ℕ) (m : Mode) (s : Slot)
-    → length t ≡ 512 → k ≡ place_of p → (b : Bool) → b ≡ is_at (get_or t k d') p m → not b ≡ true → s ≡ slot_at sheet p m
+    → length t ≡ 512 → k ≡ place_of p → (b : Bool) → b ≡ is_at (get_or t k d') p m → b ≡ false → s ≡ slot_at sheet p m
     → to_go limit done (is_at (get_or (set t k s) (place_of p) d) p m) < to_go limit done (is_at (get_or t (place_of p) d) p m)
 unfolding to_go
 put_less sheet t limit done k d d' p m s n ek b eb e q =
@@ -90,14 +86,14 @@ put_less sheet t limit done k d d' p m s n ek b eb e q =
     let z : is_at (get_or (set t k s) k d) p m ≡ true =
     ap (λ (y : Slot). is_at y p m) (get_or-set_same t k s d l ∙ q) ∙ is_own sheet p m in
     let y : is_at (get_or t k d) p m ≡ false =
-    ap (λ (r : Slot). is_at r p m) (same_get t k d d' l) ∙ sym eb ∙ not_true b e in
+    ap (λ (r : Slot). is_at r p m) (same_get t k d d' l) ∙ sym eb ∙ e in
     rw (sym ek, z, y) (omega arith)
 
 -- a slot that stands in its place
 pub found : (sheet : List ℕ) (t : List Slot) (k : ℕ) (d : Slot) (p : ℕ) (m : Mode) → length t ≡ 512 → Kept sheet t
-    → k ≡ place_of p → (b : Bool) → b ≡ is_at (get_or t k d) p m → not b ≡ false → get_or t k d ≡ slot_at sheet p m
+    → k ≡ place_of p → (b : Bool) → b ≡ is_at (get_or t k d) p m → b ≡ true → get_or t k d ≡ slot_at sheet p m
 found sheet t k d p m n h ek b eb e =
-    hit sheet t k d p m h (rw (ek, n) (place_in p)) (sym eb ∙ un_not b e)
+    hit sheet t k d p m h (rw (ek, n) (place_in p)) (sym eb ∙ e)
 
 -- an instruction done
 pub done_less : (limit done : ℕ) (a b : Bool) → done < limit → to_go limit (done + 1) a < to_go limit done b

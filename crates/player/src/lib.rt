@@ -99,7 +99,7 @@ fn report(
 }
 
 // The turns of a play that was not refused before its first.
-#[tactic(auto, unfolding(isa::specs::Machine::arch_with))]
+#[tactic(auto, unfolding(crate::specs::Inner::place_of))]
 fn turns(v: Start, sheet: &[u8], answers: &[u32], table: &[u32], limit: u32) -> Played
     requires { limit ≤ 1000000 }
     ensures { result ≡
