@@ -79,7 +79,8 @@ to_go limit done there = 2 * (limit - done) + cond there 0 1
 -- a slot put in its place
 pub put_less : (sheet : List ℕ) (t : List Slot) (limit done k : ℕ) (d d' : Slot) (p : ℕ) (m : Mode) (s : Slot)
     → length t ≡ 512 → k ≡ place_of p → (b : Bool) → b ≡ is_at (get_or t k d') p m → b ≡ false → s ≡ slot_at sheet p m
-    → to_go limit done (is_at (get_or (set t k s) (place_of p) d) p m) < to_go limit done (is_at (get_or t (place_of p) d) p m)
+    → to_go limit done (is_at (get_or (set t k s) (place_of p) d) p m)
+    < to_go limit done (is_at (get_or t (place_of p) d) p m)
 unfolding to_go
 put_less sheet t limit done k d d' p m s n ek b eb e q =
     let l : k < length t = rw (ek, n) (place_in p) in

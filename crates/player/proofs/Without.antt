@@ -5,7 +5,8 @@ use mathlib.Core.List.{List}
 use mathlib.Core.Path.{◌∙◌, ◌≡◌, ap, refl}
 use Rattle.isa.proofs.Asks.{asks_none}
 use Rattle.isa.specs.Inquiries.{fill, is_inquiry}
-use Rattle.isa.specs.Machine.{Arch, Program, effect_at, instruction_at, open_at, program_of, step_by, stops_at, value_at}
+use Rattle.isa.specs.Machine.{Arch, Program, effect_at, instruction_at, open_at, program_of, step_by, stops_at}
+use Rattle.isa.specs.Machine.{value_at}
 use Rattle.sheet.specs.Sheet.{SheetWithout, sheet_source}
 use Rattle.player.specs.Claims.{AnyTable}
 use Rattle.player.specs.Names.{PlayHalted, Start}

@@ -1,6 +1,7 @@
 -- The plain player: turns in the order of RULES 23.2, over the one-at-a-time machine.
 use Rattle.std.specs.Prelude.{◌+◌, suc, zero, ℕ, nat_lt, length, Bool, cond, false, List, [], ◌∷◌}
-use Rattle.isa.specs.Machine.{Arch, Program, arch_with, effect_at, instruction_at, is_barred, program_of, step_by, stops_at}
+use Rattle.isa.specs.Machine.{Arch, Program, arch_with, effect_at, instruction_at, is_barred, program_of, step_by}
+use Rattle.isa.specs.Machine.{stops_at}
 use Rattle.isa.specs.Operands.{operands_of}
 use Rattle.sheet.specs.Sheet.{limited_code, sheet_source}
 use Rattle.word.specs.Words.{bit}
