@@ -1,4 +1,4 @@
--- A sheet and a limit that are not refused: the limit is within its bound.
+-- Where the sheet and the limit are not refused, the limit is within its bound.
 use Rattle.std.proofs.Common.{◌∙◌, arith, sym}
 use Rattle.sheet.proofs.Limit.{limited}
 use Rattle.player.proofs.play.Goals as goal

@@ -10,7 +10,7 @@ unfolding arch_with
 loop-done-init c =
     begins _ _ _ _ _ _ refl (kept_same _ _ (slot_own _ _ _ _ c.at-slots.ensures) 512) _ refl
 
--- a slot put in its place
+-- The slot at hand is that of another address or mode, so the right one is put in its place, and less is left to do.
 pub loop-done-smaller-then-not-is_at : goal.loop-done-smaller-then-not-is_at
 loop-done-smaller-then-not-is_at c =
     let i = c.loop-done in
@@ -30,7 +30,7 @@ loop-done-preserved-then-not-is_at c =
       same = h.same;
     }
 
--- the ends of a turn; `found`: the slot at hand is that of the address and mode
+-- The play ends. `found` says that the slot at hand is that of the address and mode.
 pub returns-then-barred-o : goal.returns-then-barred-o
 returns-then-barred-o c =
     let h = c.loop-done.invariant in
@@ -47,7 +47,7 @@ returns-then-m c =
     _ c.value_of-value.ensures _ c.write.ensures _ c.used_after-used.ensures
     _ (c.target_or-pc.ensures ∙ rw c.fall.ensures) _ c.mode_or-mode.ensures c.if-m.true
 
--- an instruction done
+-- An instruction is done, and the play goes on.
 pub loop-done-smaller : goal.loop-done-smaller
 loop-done-smaller c = done_less _ _ _ _ c.loop-done-test.true
 
@@ -60,5 +60,6 @@ loop-done-preserved c =
     _ c.value_of-value.ensures _ c.write.ensures _ c.used_after-used.ensures
     _ (c.target_or-pc.ensures ∙ rw c.fall.ensures) _ c.mode_or-mode.ensures c.if-m.false
 
+-- The limit is used up.
 pub returns : goal.returns
 returns c = c.report-2.ensures ∙ spent_is _ _ _ _ _ _ _ _ _ _ _ c.loop-done.invariant c.loop-done-test.false
