@@ -4,7 +4,6 @@ use mathlib.Core.Bool.{Bool, cond, false, true}
 use mathlib.Core.List.{List, [], ◌++◌, ◌∷◌, append_assoc}
 use mathlib.Core.Path.{◌∙◌, ◌≡◌, ap, refl, sym}
 use Rattle.isa.specs.Machine.{Program, first, is_empty, rest}
-use Rattle.pipeline.specs.Advance.{next}
 use Rattle.pipeline.specs.Retire.{retire}
 use Rattle.pipeline.specs.Tick.{Result, moved, refused, tick, word_in}
 use Rattle.stages.specs.Loads.{want_load}

@@ -4,7 +4,7 @@ use borrow.Author.Tests.{eqb-false, eqb-true, ltb-false, ltb-true, ne_eqb}
 use lib.Dec.{eqb, ltb}
 use lib.ListN.{get_or, length}
 use mathlib.Core.Bool.{Bool, ◌&&◌, ◌||◌, cond, false, false≢true, not, true}
-use mathlib.Core.List.{List, ◌++◌, ◌∷◌, append-nil}
+use mathlib.Core.List.{List, ◌++◌, append-nil}
 use mathlib.Core.Path.{◌∙◌, ◌≡◌, ap, refl, subst, sym}
 use native.Mathlib.Omega.{arith}
 use Rattle.isa.proofs.Bools.{split}
@@ -25,7 +25,6 @@ use Rattle.latch.specs.Latches.{cleared, empty_ex_mem, empty_id_ex, empty_mem_wb
 use Rattle.latch.specs.Memory.{dest_after, loads, mem_wb_of, passed_on, requests, stores, value_after, writes_after}
 use Rattle.latch.specs.Retire.{halts, is_faulty, retired_mode, retired_pc, retired_regs}
 use Rattle.pipeline.specs.Advance.{advance, move_of}
-use Rattle.pipeline.specs.Ask.{asks}
 use Rattle.pipeline.specs.Retire.{retire}
 use Rattle.stages.specs.Advance.{advance_by, advance_stages, id_ex_after, if_id_after, place_after, wait_after}
 use Rattle.stages.specs.Counting.{count_retired, counted, flushes, stalls}
@@ -43,8 +42,7 @@ use Rattle.accuracy.proofs.Path.{next_guessed, next_turned, open_of, pc_at, sett
 use Rattle.accuracy.proofs.Path.{way_at, xm_regs_at, xm_at}
 use Rattle.accuracy.proofs.Registers.{fwd_load, fwd_xm, length_cpu, length_put, read_put, zero_cpu, zero_put}
 use Rattle.accuracy.proofs.Registers.{zero_read}
-use Rattle.accuracy.specs.Accuracy.{answers}
-use Rattle.accuracy.specs.Count.{count, predict_at}
+use Rattle.accuracy.specs.Count.{predict_at}
 use Rattle.accuracy.specs.Names.{Decoded, Dest, Effect, ExMem, IdEx, IfId, Inquiry, MemWb, Mode, Move, Next}
 use Rattle.accuracy.specs.Names.{NoDest, NoInquiry, Of, PipelineCpu, Place, RawInstr, Redirect, Reg, Request}
 use Rattle.accuracy.specs.Names.{Special, Taken, To}

@@ -2,7 +2,7 @@
 -- that has done as many instructions as are retired. Assumes nothing.
 use Prim.Native.Nat.{◌≤◌, suc, ℕ}
 use lib.ListN.{get_or, length}
-use mathlib.Core.Bool.{Bool, cond, false, false≢true, true}
+use mathlib.Core.Bool.{Bool, cond, false, false≢true}
 use mathlib.Core.List.{List, [], ◌∷◌}
 use mathlib.Core.Path.{◌∙◌, ◌≡◌, ap, refl, sym}
 use native.Mathlib.Omega.{arith}

@@ -10,7 +10,7 @@ use Rattle.latch.specs.Decode.{decode_predicted, id_ex_of}
 use Rattle.latch.specs.Execute.{ex_mem_of}
 use Rattle.latch.specs.Latches.{empty_ex_mem}
 use Rattle.latch.specs.Memory.{request_in, requests}
-use Rattle.stages.specs.Advance.{advance_by, advance_stages, awake, id_ex_after, if_id_after, place_after}
+use Rattle.stages.specs.Advance.{advance_by, advance_stages, id_ex_after, if_id_after, place_after}
 use Rattle.stages.specs.Counting.{count_retired, counted, stalls, unless_full}
 use Rattle.stages.specs.Execute.{effect_for, executed, executed_by, inquiry_by, inquiry_of}
 use Rattle.stages.specs.Fetch.{fetches, next_id_ex, predicted}

@@ -11,7 +11,6 @@ use Rattle.accuracy.proofs.Feeding.{Fed, FeedsBy}
 use Rattle.accuracy.proofs.Offers.{AllMeet, Meets, reply_offer, reply_special}
 use Rattle.accuracy.specs.Accuracy.{Run, after, begin, one, one_by}
 use Rattle.isa.specs.Machine.{Program, Source, first, is_empty, program_of, zero_start}
-use Rattle.pipeline.specs.Advance.{next}
 use Rattle.pipeline.specs.Tick.{Result, moved, refused, tick, word_in}
 use Rattle.pipeline.specs.Turn.{reply}
 use Rattle.stages.specs.Loads.{want_load}

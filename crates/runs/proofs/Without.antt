@@ -1,7 +1,7 @@
 -- Without MFSR no special register is asked for, and the table does not matter. Assumes nothing.
 use Prim.Native.Nat.{suc, zero, ℕ}
 use mathlib.Core.Bool.{Bool, cond, false, true}
-use mathlib.Core.List.{List, [], ◌∷◌}
+use mathlib.Core.List.{List, []}
 use mathlib.Core.Path.{◌∙◌, ◌≡◌, ap, refl, subst}
 use native.Mathlib.Omega.{arith}
 use Rattle.accuracy.proofs.Took.{took}

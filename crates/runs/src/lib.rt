@@ -1,4 +1,6 @@
 // What is claimed of a run, with its proof; the code is crate runner.
+#![tactic(auto)]
+
 use pipeline::PipelineCpu;
 use sheet::End;
 
