@@ -1,5 +1,5 @@
 // Words of 32 bits: sums that wrap, signed offsets, products, quotients, shifts, halves and cuts.
-// The arithmetic of one command of the step sheet is exported for C.
+// Crate word_c exports the arithmetic of one command of the step sheet to C.
 //
 // Wrong programs that the promises rule out, for each function two:
 // - add, sub: a sum that saturates; the operands of sub swapped.
@@ -258,10 +258,9 @@ pub fn arithmetic(command: u32, a: u32, b: u32) -> u32
     }
 }
 
-// The same for C, with refusal 5 for any other command.
-#[unsafe(no_mangle)]
+// The same, with refusal 5 for any other command: the arithmetic that word_c exports to C.
 #[tactic(auto, unfolding(crate::specs::Command::command32))]
-pub extern "C" fn src32_alu(command: u32, a: u32, b: u32) -> u64
+pub fn src32_alu(command: u32, a: u32, b: u32) -> u64
     ensures { result ≡ command32 command a b }
 {
     match command {
