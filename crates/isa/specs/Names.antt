@@ -1,4 +1,4 @@
--- The declared types and their constructors, each under one name: an `s` stands before a Short instruction's.
+-- The declared types and their constructors, each under one name: `Short` stands before a Short instruction's.
 pub use Rattle.isa.specs.declared.Mode.{Mode}
 pub use Rattle.isa.specs.declared.Mode.TheVariants.{Normal, Short}
 pub use Rattle.isa.specs.declared.Start.{Start}
