@@ -1,0 +1,28 @@
+// Input read into a lent buffer.
+//
+// Wrong programs that the promise of `read_full` rules out: one read alone; each read to the buffer's start; an end that
+// is taken for an error.
+#![tactic(auto)]
+
+ghost use Rattle.std.specs.Prelude.{◌<◌, ◌≤◌, IfOk, length, take};
+ghost use Rattle.std.specs.Io.KnownBytes.{Consumes, IsAtEnd};
+
+use std::io::{Read, Result};
+
+// Reads until the buffer is full or the input has ended, and answers how many bytes of it were read. The first read that
+// fails ends it.
+pub fn read_full<R: Read>(from: &mut R, buf: &mut [u8]) -> Result<usize>
+    ensures within { IfOk result (λ n. n ≤ length buf.new) }
+    ensures bytes { IfOk result (λ n. Consumes (R.remaining from.old) (R.remaining from.new) (take n buf.new)) }
+    ensures end { IfOk result (λ n. n < length buf.new → IsAtEnd (R.remaining from.new)) }
+{
+    let mut done = 0;
+    while done < buf.len() {
+        let n = from.read(&mut buf[done..])?;
+        if n == 0 {
+            break;
+        }
+        done += n;
+    }
+    Ok(done)
+}
