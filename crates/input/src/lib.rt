@@ -1,7 +1,7 @@
 // Input read into a lent buffer.
 //
-// Wrong programs that the promise of `read_full` rules out: one read alone; each read to the buffer's start; an end that
-// is taken for an error.
+// Wrong programs that the promise of `read_full` rules out: one read alone; each read to the buffer's start; a read of
+// one byte taken for the input's end.
 #![tactic(auto)]
 
 ghost use Rattle.std.specs.Prelude.{◌<◌, ◌≤◌, IfOk, length, take};
@@ -9,8 +9,8 @@ ghost use Rattle.std.specs.Io.KnownBytes.{Consumes, IsAtEnd};
 
 use std::io::{Read, Result};
 
-// Reads until the buffer is full or the input has ended, and answers how many bytes of it were read. The first read that
-// fails ends it.
+// Reads until the buffer is full or the input has ended, and answers how many bytes were read. A read that fails ends
+// it at once.
 pub fn read_full<R: Read>(from: &mut R, buf: &mut [u8]) -> Result<usize>
     ensures within { IfOk result (λ n. n ≤ length buf.new) }
     ensures bytes { IfOk result (λ n. Consumes (R.remaining from.old) (R.remaining from.new) (take n buf.new)) }
