@@ -1,4 +1,3 @@
-pub mod Decimal
 pub mod Put
 pub mod Whole
 pub mod Claims

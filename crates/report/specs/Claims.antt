@@ -29,7 +29,7 @@ pub record Claims : Type 0 where
   pub short_refusal : (r : Ran) (sheet : List ℕ) → length (refusal_of r sheet) ≤ 139
   -- the report of RULES 22.1's row with ADDI, MUL and HALT, whatever the latches and the two other counters hold
   pub example : (l : Stages) (c k : ℕ) → report_text (example_ran l c k)
-      ≡ ascii "end halted\nticks 9\nretired 3\nstalls 2\nflushes 0\n_r3 7\n_r4 49\n"
+      ≡ ascii "end halted\nticks 9\nretired 3\nstalls 2\nflushes 0\nR3 7\nR4 49\n"
   -- lines at their limits
   pub most : line (ascii "retired") 18446744073709551615 ≡ ascii "retired 18446744073709551615\n"
   pub refused : end_line (EndRefused 12) ≡ ascii "end refused 12\n"

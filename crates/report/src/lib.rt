@@ -20,7 +20,6 @@ use crate::refusal::put_refusal;
 use runs::Ran;
 
 // Writes a run's report at the start of a buffer and answers how many bytes of it stand there.
-#[tactic(auto, unfolding(crate::specs::Text::report_text))]
 pub fn write(ran: Ran, out: &mut [u8]) -> usize
     ensures out_after { out.new ≡ written (report_text ran) out.old }
     ensures value { result ≡ written_count (report_text ran) out.old }
@@ -42,7 +41,6 @@ pub fn write(ran: Ran, out: &mut [u8]) -> usize
 }
 
 // Writes which record was refused and why, where a run of a sheet was refused, in the same way.
-#[tactic(auto, unfolding(crate::specs::Refusal::refusal_of))]
 pub fn explain(ran: Ran, sheet: &[u8], out: &mut [u8]) -> usize
     ensures out_after { out.new ≡ written (refusal_of ran sheet.now) out.old }
     ensures value { result ≡ written_count (refusal_of ran sheet.now) out.old }

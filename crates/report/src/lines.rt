@@ -20,7 +20,6 @@ pub(crate) fn put_end(out: &mut [u8], at: usize, end: End) -> usize
 }
 
 // The ticks done, then three counters.
-#[tactic(auto, unfolding(crate::specs::Text::count_lines))]
 pub(crate) fn put_counts(
     out: &mut [u8],
     at: usize,
@@ -38,7 +37,6 @@ pub(crate) fn put_counts(
 }
 
 // A register with its value, unless that is 0.
-#[tactic(auto, unfolding(crate::specs::Text::register_line, crate::specs::Ascii::line))]
 fn put_register(out: &mut [u8], at: usize, r: u64, value: u64) -> usize
     ensures { Puts out.old at (register_line r value) out.new result }
 {
@@ -51,7 +49,6 @@ fn put_register(out: &mut [u8], at: usize, r: u64, value: u64) -> usize
 }
 
 // The registers, lowest first.
-#[tactic(auto, unfolding(crate::specs::Text::register_lines))]
 pub(crate) fn put_registers(out: &mut [u8], at: usize, reg: &[u32; 32]) -> usize
     ensures { Puts out.old at (register_lines 32 reg.now) out.new result }
 {

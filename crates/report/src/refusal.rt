@@ -49,7 +49,6 @@ fn put_hex(out: &mut [u8], at: usize, n: u32) -> usize
 }
 
 // The record of an address.
-#[tactic(auto, unfolding(crate::specs::Refusal::record_text))]
 fn put_record(out: &mut [u8], at: usize, pc: u32) -> usize
     ensures { Puts out.old at (record_text pc) out.new result }
 {
@@ -60,7 +59,6 @@ fn put_record(out: &mut [u8], at: usize, pc: u32) -> usize
 }
 
 // Which record it was, the number of the refusal, and why.
-#[tactic(auto, unfolding(crate::specs::Refusal::explained))]
 fn put_explained(out: &mut [u8], pc: u32, n: u64, why: &[u8]) -> usize
     ensures { Puts out.old 0 (explained pc n why.now) out.new result }
 {

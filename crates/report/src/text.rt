@@ -1,5 +1,5 @@
 // Text put into a lent buffer from a place on. Each function answers the place behind what it put.
-ghost use Rattle.std.specs.Prelude.{[], ◌∷◌};
+ghost use Rattle.std.specs.Prelude.{[], ◌%◌, ◌+◌, ◌<◌, ◌∷◌, ◌≡◌, drop};
 ghost use Rattle.report.specs.Ascii.{decimal, line, value};
 ghost use Rattle.report.specs.Inner.{Puts};
 
@@ -27,17 +27,41 @@ pub(crate) fn put_bytes(out: &mut [u8], at: usize, bytes: &[u8]) -> usize
     to
 }
 
+// A number's last digit.
+fn last_digit(n: u64) -> u8
+    ensures { result ≡ 48 + n % 10 }
+{
+    b'0' + (n % 10) as u8
+}
+
+// Puts a number's digits at the end of a buffer and answers where they begin.
+#[tactic(auto, unfolding(crate::specs::Ascii::decimal, crate::specs::Ascii::digits_in))]
+fn put_digits(out: &mut [u8; 20], n: u64) -> usize
+    ensures within { result < 20 }
+    ensures digits { drop result out.new ≡ decimal n }
+{
+    let mut from = 20;
+    let mut rest = n;
+    while rest > 9 {
+        from -= 1;
+        out[from] = last_digit(rest);
+        rest /= 10;
+    }
+    from -= 1;
+    out[from] = last_digit(rest);
+    from
+}
+
 // A number in decimal.
 pub(crate) fn put_number(out: &mut [u8], at: usize, n: u64) -> usize
     ensures { Puts out.old at (decimal n) out.new result }
 {
     let mut digits = [0u8; 20];
-    let k = io::decimal(n, &mut digits);
-    put_bytes(out, at, &digits[..k])
+    let from = put_digits(&mut digits, n);
+    put_bytes(out, at, &digits[from..])
 }
 
 // What follows a line's name: a space, a number and the line's end.
-#[tactic(auto, unfolding(crate::specs::Ascii::value))]
 pub(crate) fn put_value(out: &mut [u8], at: usize, n: u64) -> usize
     ensures { Puts out.old at (value n) out.new result }
 {
@@ -47,7 +71,6 @@ pub(crate) fn put_value(out: &mut [u8], at: usize, n: u64) -> usize
 }
 
 // A line.
-#[tactic(auto, unfolding(crate::specs::Ascii::line))]
 pub(crate) fn put_line(out: &mut [u8], at: usize, name: &[u8], n: u64) -> usize
     ensures { Puts out.old at (line name.now n) out.new result }
 {
