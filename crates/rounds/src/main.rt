@@ -3,8 +3,10 @@
 // Every load answer is 0, and there is no special register.
 #![tactic(auto)]
 
+use input::read_full;
 use isa::Start;
 use pipeline::PipelineCpu;
+use std::io::Result;
 
 // What all rounds have used and retired.
 #[derive(Drop)]
@@ -38,24 +40,24 @@ fn total(rounds: u32, limit: u32, sheet: &[u8], answers: &[u32]) -> Totals {
 }
 
 // Prints a number and the byte behind it.
-fn print(n: u64, behind: &[u8]) {
-    io::print_decimal(libc::STDOUT_FILENO, n);
-    io::write_all(libc::STDOUT_FILENO, behind);
+fn print(rt: &HostRuntime, n: u64, behind: char) -> Result<()> {
+    print!(rt; "{n}{behind}")
 }
 
-fn play(buf: &mut [u8], answers: &[u32]) {
-    let n = io::read_full(libc::STDIN_FILENO, buf);
-    if 8 <= n && n <= buf.len() {
+fn play(rt: &HostRuntime, buf: &mut [u8], answers: &[u32]) -> Result<()> {
+    let n = read_full(&mut rt.stdin(), buf)?;
+    if 8 <= n {
         let rounds = bench::number(buf, 0);
         let limit = bench::number(buf, 4);
         let t = total(rounds, limit, &buf[8..n], answers);
-        print(t.ticks as u64, b" ");
-        print(t.instructions, b"\n");
+        print(rt, t.ticks as u64, ' ')?;
+        print(rt, t.instructions, '\n')?;
     }
+    Ok(())
 }
 
-fn main() {
+fn main(rt: HostRuntime) -> Result<()> {
     let mut buf = [0u8; 20488];
     let answers = [0u32; 8192];
-    play(&mut buf, &answers);
+    play(&rt, &mut buf, &answers)
 }
