@@ -3,7 +3,9 @@
 // there is no special register.
 #![tactic(auto)]
 
+use input::read_full;
 use isa::Start;
+use std::io::Result;
 
 fn total(rounds: u32, limit: u32, sheet: &[u8], answers: &[u32]) -> u64 {
     let mut left = rounds;
@@ -16,21 +18,19 @@ fn total(rounds: u32, limit: u32, sheet: &[u8], answers: &[u32]) -> u64 {
     sum
 }
 
-fn play(buf: &mut [u8], answers: &[u32]) {
-    let n = io::read_full(libc::STDIN_FILENO, buf);
-    if 8 <= n && n <= buf.len() {
+fn play(rt: &HostRuntime, buf: &mut [u8], answers: &[u32]) -> Result<()> {
+    let n = read_full(&mut rt.stdin(), buf)?;
+    if 8 <= n {
         let rounds = bench::number(buf, 0);
         let limit = bench::number(buf, 4);
-        io::print_decimal(
-            libc::STDOUT_FILENO,
-            total(rounds, limit, &buf[8..n], answers),
-        );
-        io::write_all(libc::STDOUT_FILENO, b"\n");
+        let sum = total(rounds, limit, &buf[8..n], answers);
+        println!(rt; "{sum}")?;
     }
+    Ok(())
 }
 
-fn main() {
+fn main(rt: HostRuntime) -> Result<()> {
     let mut buf = [0u8; 20488];
     let answers = [0u32; 8192];
-    play(&mut buf, &answers);
+    play(&rt, &mut buf, &answers)
 }
