@@ -1,9 +1,10 @@
 // The input, line by line, through a buffer and an array for a line's numbers that the caller lends.
 use crate::run::{Run, run_of};
+use std::io::{Read, Result};
 
 // Where the reading stands. `count`, `malformed` and `whole` are of the line that was read last;
 // a line that the input ends in is not whole.
-#[derive(Drop)]
+#[derive(Clone, Copy)]
 pub struct Input {
     pub open: bool,
     pub whole: bool,
@@ -75,16 +76,15 @@ impl Input {
     }
 
     // With the next bytes of the input, once the last ones are used up.
-    fn refilled(mut self, buf: &mut [u8]) -> Input {
+    fn refilled<R: Read>(mut self, from: &mut R, buf: &mut [u8]) -> Result<Input> {
         if self.at < self.filled {
-            return self;
+            return Ok(self);
         }
-        let got = libc::read(libc::STDIN_FILENO, buf);
-        let n = io::count(got, buf);
+        let n = from.read(buf)?;
         self.at = 0;
         self.filled = n;
         self.open = n > 0;
-        self
+        Ok(self)
     }
 
     fn at_line(mut self) -> Input {
@@ -97,14 +97,19 @@ impl Input {
     }
 
     // Reads one line more. Nothing says that it ends, so the turns are counted down.
-    pub fn next_line(self, buf: &mut [u8], numbers: &mut [u32; 192]) -> Input {
+    pub fn next_line<R: Read>(
+        self,
+        from: &mut R,
+        buf: &mut [u8],
+        numbers: &mut [u32; 192],
+    ) -> Result<Input> {
         let mut s = self.at_line();
         let mut turns = u64::MAX;
         while turns > 0 && s.open && !s.whole {
-            s = s.refilled(buf);
+            s = s.refilled(from, buf)?;
             s = s.over(buf, numbers);
             turns -= 1;
         }
-        s
+        Ok(s)
     }
 }

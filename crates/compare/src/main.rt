@@ -28,20 +28,29 @@ use crate::answer::Reply;
 use crate::input::Input;
 use crate::list::answered;
 use crate::output::{flushed, put_line, with_room};
+use std::io::{Result, Write};
 
 // Puts a reply at `to` and answers where the next one goes.
-fn put(r: Reply, n: &[u32; 192], out: &mut [u8], to: usize) -> usize {
+fn put<W: Write>(
+    writer: &mut W,
+    r: Reply,
+    n: &[u32; 192],
+    out: &mut [u8],
+    to: usize,
+) -> Result<usize> {
     match r {
-        Reply::Silent => to,
+        Reply::Silent => Ok(to),
         Reply::Numbers(from, end) => {
             let next = put_line(out, to, n, from, end);
-            with_room(out, next)
+            with_room(writer, out, next)
         }
     }
 }
 
 // Answers to the end of the input. Nothing says that it ends, so the turns are counted down.
-fn answer_all(buf: &mut [u8], out: &mut [u8]) {
+fn answer_all(rt: &HostRuntime, buf: &mut [u8], out: &mut [u8]) -> Result<()> {
+    let mut reader = rt.stdin();
+    let mut writer = rt.stdout();
     let mut numbers = [0u32; 192];
     let mut sheet = [0u8; 20736];
     let mut answers = [0u32; 4096];
@@ -52,7 +61,7 @@ fn answer_all(buf: &mut [u8], out: &mut [u8]) {
     let mut to: usize = 0;
     let mut turns = u64::MAX;
     while turns > 0 && i.open {
-        i = i.next_line(buf, &mut numbers);
+        i = i.next_line(&mut reader, buf, &mut numbers)?;
         let reply = answered(
             i,
             &mut held,
@@ -61,14 +70,15 @@ fn answer_all(buf: &mut [u8], out: &mut [u8]) {
             &mut answers,
             &mut table,
         );
-        to = put(reply, &numbers, out, to);
+        to = put(&mut writer, reply, &numbers, out, to)?;
         turns -= 1;
     }
-    flushed(out, to);
+    flushed(&mut writer, out, to)?;
+    Ok(())
 }
 
-fn main() {
-    let mut buf = io::large_buffer();
-    let mut out = io::large_buffer();
-    answer_all(&mut buf, &mut out);
+fn main(rt: HostRuntime) -> Result<()> {
+    let mut buf = [0u8; 65536];
+    let mut out = [0u8; 65536];
+    answer_all(&rt, &mut buf, &mut out)
 }
