@@ -1,0 +1,5 @@
+-- The turns are counted down.
+use Rattle.compare.proofs.answer_all.Given as goal
+
+abbrev pub decreases-loop-turns : goal.decreases-loop-turns
+decreases-loop-turns l = l.turns
