@@ -66,8 +66,8 @@ def renamed(text, new):
     return NAME.sub(lambda m: new.get(m.group(), m.group()), text)
 
 
-def code_lines(text):
-    """The lines of a .rt file with its strings set apart, so that only code and comments are renamed."""
+def outside_strings(text):
+    """The text with its strings set apart, at the odd places of the list, so that only code and comments are renamed."""
     return re.split(r'("(?:[^"\\\n]|\\.)*")', text)
 
 
@@ -132,9 +132,9 @@ def imports(text, body):
 
 def respelled(path, text, new):
     if path.endswith(".rt"):
-        parts = code_lines(text)
-        camel = {a: b for a, b in new.items() if CAMEL.match(a) and "-" not in a}
-        text = "".join(p if k % 2 else renamed(p, camel) for k, p in enumerate(parts))
+        new = {a: b for a, b in new.items() if CAMEL.match(a) and "-" not in a}
+    if not path.endswith(".edit"):
+        text = "".join(p if k % 2 else renamed(p, new) for k, p in enumerate(outside_strings(text)))
     else:
         text = renamed(text, new)
     if os.sep + "proofs" + os.sep in path or path.endswith(".edit"):

@@ -13,7 +13,8 @@ use Rattle.latch.specs.Memory.{request_in, requests}
 use Rattle.pipeline.specs.Advance.{next}
 use Rattle.pipeline.specs.Ask.{ask, asked_by, asks, fetch_at, fetch_of, want_fetch, want_origins, wanted}
 use Rattle.pipeline.specs.Refusals.{and_then, code_of, state_tests}
-use Rattle.pipeline.specs.Tick.{Result, fits_offer, fits_special, is_answer, moved, offer_code, refused, same, taken, tests}
+use Rattle.pipeline.specs.Tick.{Result, fits_offer, fits_special, is_answer, moved, offer_code, refused, same, taken}
+use Rattle.pipeline.specs.Tick.{tests}
 use Rattle.pipeline.specs.Tick.{tick, verdict}
 use Rattle.stages.specs.Advance.{awake}
 use Rattle.stages.specs.Counting.{counter_full}

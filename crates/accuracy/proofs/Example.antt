@@ -1,11 +1,14 @@
 -- The example, by computation. Assumes nothing.
 use mathlib.Core.Path.{refl}
-use Rattle.isa.specs.Effect.{branches, effect_n, effect_of, effect_s, fall, gives, goes_by, goes_on, identifies, inquires}
+use Rattle.isa.specs.Effect.{branches, effect_n, effect_of, effect_s, fall, gives, goes_by, goes_on, identifies}
+use Rattle.isa.specs.Effect.{inquires}
 use Rattle.isa.specs.Effect.{jumps, links, marked, no_access, no_marks, no_result, nothing, privileged, raises, reaches}
 use Rattle.isa.specs.Effect.{resumes, sets, size, stops, written}
 use Rattle.isa.specs.Inquiries.{fill, is_inquiry, is_said, look_up, mfsr_with}
-use Rattle.isa.specs.Machine.{arch_with, dest_of, effect_at, first, instruction_at, is_barred, is_empty, machine, machine_by}
-use Rattle.isa.specs.Machine.{machine_step, open_at, program_of, request_of, rest, step_by, stops_at, value_at, zero_start}
+use Rattle.isa.specs.Machine.{arch_with, dest_of, effect_at, first, instruction_at, is_barred, is_empty, machine}
+use Rattle.isa.specs.Machine.{machine_by}
+use Rattle.isa.specs.Machine.{machine_step, open_at, program_of, request_of, rest, step_by, stops_at, value_at}
+use Rattle.isa.specs.Machine.{zero_start}
 use Rattle.isa.specs.Operands.{bare, binary, branching, gpr, loading, ok_dest, ok_operands, operands_n, operands_of}
 use Rattle.isa.specs.Operands.{operands_s, plain, reads, storing, unary, writes}
 use Rattle.isa.specs.Redirects.{is_exception, is_mtsr, is_to, mode_or, new_mode_or, target_or}
@@ -25,7 +28,8 @@ use Rattle.pipeline.specs.Ask.{asks, fetch_at, want_fetch, want_special}
 use Rattle.pipeline.specs.Refusals.{and_then, state_tests}
 use Rattle.pipeline.specs.Retire.{retire}
 use Rattle.pipeline.specs.Start.{fresh}
-use Rattle.pipeline.specs.Tick.{fits_offer, fits_special, given_tests, is_answer, offer_code, raw_of, same, taken, tests}
+use Rattle.pipeline.specs.Tick.{fits_offer, fits_special, given_tests, is_answer, offer_code, raw_of, same, taken}
+use Rattle.pipeline.specs.Tick.{tests}
 use Rattle.pipeline.specs.Tick.{tick, verdict, word_in}
 use Rattle.pipeline.specs.Turn.{reply}
 use Rattle.stages.specs.Advance.{advance_by, advance_stages, awake, id_ex_after, if_id_after, place_after, wait_after}
@@ -33,7 +37,8 @@ use Rattle.stages.specs.Counting.{count_idle, count_retired, counted, counter_fu
 use Rattle.stages.specs.Execute.{effect_for, executed, executed_by, inquiry_by, inquiry_of, redirect_by, redirect_of}
 use Rattle.stages.specs.Fetch.{fetch_from, fetch_place, fetched, fetches, next_id_ex, place_or, predicted}
 use Rattle.stages.specs.Loads.{loads_in, want_load}
-use Rattle.stages.specs.Move.{begins_wait, free_move, hazard, inquiry_in, is_slow, is_wait, move, move_from, next_ex_mem}
+use Rattle.stages.specs.Move.{begins_wait, free_move, hazard, inquiry_in, is_slow, is_wait, move, move_from}
+use Rattle.stages.specs.Move.{next_ex_mem}
 use Rattle.stages.specs.Move.{proceed_or, waits_on}
 use Rattle.stages.specs.Refusals.{faulty, out_of_bounds}
 use Rattle.stages.specs.Retire.{retire_stages}

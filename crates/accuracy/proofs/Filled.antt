@@ -4,7 +4,8 @@ use mathlib.Core.Bool.{Bool}
 use mathlib.Core.Path.{◌≡◌, refl, subst, sym}
 use Rattle.isa.proofs.Asks.{Asks, asks}
 use Rattle.isa.proofs.Bools.{split}
-use Rattle.isa.specs.Effect.{effect_n, effect_of, gives, goes_on, inquires, marked, no_access, no_marks, no_result, privileged}
+use Rattle.isa.specs.Effect.{effect_n, effect_of, gives, goes_on, inquires, marked, no_access, no_marks, no_result}
+use Rattle.isa.specs.Effect.{privileged}
 use Rattle.isa.specs.Effect.{raises, written}
 use Rattle.isa.specs.Inquiries.{fill, is_inquiry, look_up, mfsr_with}
 use Rattle.isa.specs.Operands.{operands_n, operands_of, plain, writes}

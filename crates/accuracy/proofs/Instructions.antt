@@ -7,7 +7,8 @@ use mathlib.Core.Bool.{Bool, ◌&&◌, ◌||◌, cond, false, false≢true, not,
 use mathlib.Core.Path.{◌∙◌, ◌≡◌, refl, subst, sym}
 use native.Mathlib.Omega.{arith}
 use Rattle.isa.proofs.Bools.{and_3, and_r, nor, or_l, or_r, split, un_not}
-use Rattle.isa.specs.Effect.{branches, effect_n, effect_of, effect_s, fall, gives, goes_by, goes_on, identifies, inquires}
+use Rattle.isa.specs.Effect.{branches, effect_n, effect_of, effect_s, fall, gives, goes_by, goes_on, identifies}
+use Rattle.isa.specs.Effect.{inquires}
 use Rattle.isa.specs.Effect.{jumps, links, marked, no_access, no_marks, no_result, nothing, privileged, raises, reaches}
 use Rattle.isa.specs.Effect.{resumes, sets, stops, written}
 use Rattle.isa.specs.Operands.{bare, binary, branching, div_latency, gpr, loading, mul_latency, ok_dest, ok_operands}
@@ -23,7 +24,8 @@ use Rattle.accuracy.specs.Names.{Halt, Instruction, Iret, Jal, Jalr, Jalrs, Jals
 use Rattle.accuracy.specs.Names.{Ldb, Ldh, Ldih, Ldil, Mfsr, Mod, Mode, Mtsr, Mul, Mulh, NewMode, Next, Nop}
 use Rattle.accuracy.specs.Names.{Normal, Operands, Or, Redirect, Short, ShortInstruction, Sla, Sll, Slt, Sltu}
 use Rattle.accuracy.specs.Names.{Sra, Srl, St, Stb, Sth, Sub, Syscall, To, ToMode, Unknown, Xor, ShortAdd, ShortAddi}
-use Rattle.accuracy.specs.Names.{ShortBnz, ShortBz, ShortJal, ShortJr, ShortLd, ShortLdi, ShortMov, ShortRet, ShortSt, ShortUnknown}
+use Rattle.accuracy.specs.Names.{ShortBnz, ShortBz, ShortJal, ShortJr, ShortLd, ShortLdi, ShortMov, ShortRet, ShortSt}
+use Rattle.accuracy.specs.Names.{ShortUnknown}
 
 pub go_cases : {C : Type 0} (g : Redirect) → (g ≡ Next → C) → ((p : ℕ) (m : Mode) → g ≡ To p m → C) → C
 go_cases Next h k = h refl

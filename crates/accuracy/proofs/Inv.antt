@@ -31,7 +31,8 @@ use Rattle.stages.specs.Counting.{count_retired, counted, flushes, stalls}
 use Rattle.stages.specs.Execute.{effect_for, executed, executed_by, inquiry_by, inquiry_of, redirect_by, redirect_of}
 use Rattle.stages.specs.Fetch.{fetch_from, fetch_place, fetched, fetches, next_id_ex, place_or, predicted}
 use Rattle.stages.specs.Forwarding.{forwarded}
-use Rattle.stages.specs.Move.{begins_wait, free_move, hazard, is_slow, is_wait, move, move_from, next_ex_mem, proceed_or}
+use Rattle.stages.specs.Move.{begins_wait, free_move, hazard, is_slow, is_wait, move, move_from, next_ex_mem}
+use Rattle.stages.specs.Move.{proceed_or}
 use Rattle.stages.specs.Move.{waits_on}
 use Rattle.stages.specs.Retire.{retire_stages}
 use Rattle.word.specs.Words.{bit}

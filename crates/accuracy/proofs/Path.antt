@@ -9,7 +9,8 @@ use Rattle.isa.proofs.Bools.{split}
 use Rattle.isa.proofs.Machine.{step, walk}
 use Rattle.isa.specs.Effect.{fall}
 use Rattle.isa.specs.Inquiries.{fill}
-use Rattle.isa.specs.Machine.{Arch, Program, dest_of, effect_at, first, instruction_at, open_at, request_of, rest, step_by}
+use Rattle.isa.specs.Machine.{Arch, Program, dest_of, effect_at, first, instruction_at, open_at, request_of, rest}
+use Rattle.isa.specs.Machine.{step_by}
 use Rattle.isa.specs.Machine.{value_at}
 use Rattle.isa.specs.Operands.{ok_dest, operands_of}
 use Rattle.isa.specs.Redirects.{is_exception, is_to, mode_or, target_or}

@@ -13,7 +13,8 @@ use Rattle.pipeline.specs.Advance.{advance, next}
 use Rattle.pipeline.specs.Ask.{fetch_at, want_fetch, want_special}
 use Rattle.pipeline.specs.Refusals.{and_then, state_tests}
 use Rattle.pipeline.specs.Retire.{retire}
-use Rattle.pipeline.specs.Tick.{fits_offer, fits_special, given_tests, is_answer, moved, offer_code, raw_of, same, taken}
+use Rattle.pipeline.specs.Tick.{fits_offer, fits_special, given_tests, is_answer, moved, offer_code, raw_of, same}
+use Rattle.pipeline.specs.Tick.{taken}
 use Rattle.pipeline.specs.Tick.{tests, tick, verdict, word_in}
 use Rattle.stages.specs.Advance.{advance_by, advance_stages}
 use Rattle.stages.specs.Counting.{count_retired, counted, counter_full}

@@ -1,5 +1,6 @@
 -- RULES 15.3 to 15.8: one claim about a whole list of ticks, from a fresh state.
-use Rattle.std.specs.Prelude.{◌*◌, ◌+◌, ◌≤◌, suc, ℕ, ◌==◌, length, Bool, ◌&&◌, cond, false, true, List, [], ◌++◌, ◌∷◌, ◌≡◌}
+use Rattle.std.specs.Prelude.{◌*◌, ◌+◌, ◌≤◌, suc, ℕ, ◌==◌, length, Bool, ◌&&◌, cond, false, true, List, [], ◌++◌, ◌∷◌}
+use Rattle.std.specs.Prelude.{◌≡◌}
 use Rattle.isa.specs.Machine.{Arch, Program, arch_with, machine, whole_program}
 use Rattle.isa.specs.Short.{decoded_of}
 use Rattle.pipeline.specs.Ask.{asks, fetch_at, want_special}

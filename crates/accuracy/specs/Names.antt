@@ -9,8 +9,10 @@ pub use Rattle.isa.specs.declared.Instruction.TheVariants.{Sll, Srl, Sla, Sra, S
 pub use Rattle.isa.specs.declared.Instruction.TheVariants.{Ldh, Stb, Sth, Ldil, Ldih, Unknown, Iret, Syscall, Mfsr}
 pub use Rattle.isa.specs.declared.Instruction.TheVariants.{Mtsr}
 pub use Rattle.isa.specs.declared.ShortInstruction.{ShortInstruction}
-pub use Rattle.isa.specs.declared.ShortInstruction.TheVariants.{Mov as ShortMov, Add as ShortAdd, Addi as ShortAddi, Ld as ShortLd}
-pub use Rattle.isa.specs.declared.ShortInstruction.TheVariants.{St as ShortSt, Bz as ShortBz, Bnz as ShortBnz, Jr as ShortJr}
+pub use Rattle.isa.specs.declared.ShortInstruction.TheVariants.{Mov as ShortMov, Add as ShortAdd, Addi as ShortAddi}
+pub use Rattle.isa.specs.declared.ShortInstruction.TheVariants.{Ld as ShortLd}
+pub use Rattle.isa.specs.declared.ShortInstruction.TheVariants.{St as ShortSt, Bz as ShortBz, Bnz as ShortBnz}
+pub use Rattle.isa.specs.declared.ShortInstruction.TheVariants.{Jr as ShortJr}
 pub use Rattle.isa.specs.declared.ShortInstruction.TheVariants.{Jal as ShortJal, Ldi as ShortLdi, Ret as ShortRet}
 pub use Rattle.isa.specs.declared.ShortInstruction.TheVariants.{Unknown as ShortUnknown}
 pub use Rattle.isa.specs.declared.RawInstr.{RawInstr}

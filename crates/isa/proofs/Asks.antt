@@ -10,7 +10,8 @@ use Rattle.isa.specs.Names.{Add, Addi, And, Beq, Bne, Cpuid, DecNormal, DecShort
 use Rattle.isa.specs.Names.{Inquiry, Instruction, Iret, Jal, Jalr, Jalrs, Jals, Jmp, Jmps, Jr, Jrs, Ld, Ldb, Ldh}
 use Rattle.isa.specs.Names.{Ldih, Ldil, Mfsr, Mod, Mtsr, Mul, Mulh, NoInquiry, Nop, Normal, Of, Or, Short}
 use Rattle.isa.specs.Names.{ShortInstruction, Sla, Sll, Slt, Sltu, Sra, Srl, St, Stb, Sth, Sub, Syscall, Unknown}
-use Rattle.isa.specs.Names.{Xor, ShortAdd, ShortAddi, ShortBnz, ShortBz, ShortJal, ShortJr, ShortLd, ShortLdi, ShortMov, ShortRet, ShortSt, ShortUnknown}
+use Rattle.isa.specs.Names.{Xor, ShortAdd, ShortAddi, ShortBnz, ShortBz, ShortJal, ShortJr, ShortLd, ShortLdi, ShortMov}
+use Rattle.isa.specs.Names.{ShortRet, ShortSt, ShortUnknown}
 
 -- an instruction that asks
 pub record Asks (u : Bool) (i : Decoded) : Type 0 where

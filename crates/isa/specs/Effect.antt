@@ -9,7 +9,8 @@ use Rattle.isa.specs.Names.{Mode, Mtsr, Mul, Mulh, NewMode, Next, NoException, N
 use Rattle.isa.specs.Names.{Or}
 use Rattle.isa.specs.Names.{PrivilegedInstruction, Redirect, Short, ShortInstruction, Sla, Sll, Slt, Sltu, Sra}
 use Rattle.isa.specs.Names.{Srl, St, Stb, Sth, Sub, Syscall, SyscallException, To, ToMode, Unknown, Write, Xor}
-use Rattle.isa.specs.Names.{ShortAdd, ShortAddi, ShortBnz, ShortBz, ShortJal, ShortJr, ShortLd, ShortLdi, ShortMov, ShortRet, ShortSt, ShortUnknown}
+use Rattle.isa.specs.Names.{ShortAdd, ShortAddi, ShortBnz, ShortBz, ShortJal, ShortJr, ShortLd, ShortLdi, ShortMov}
+use Rattle.isa.specs.Names.{ShortRet, ShortSt, ShortUnknown}
 
 -- the size of an instruction in bytes, by its mode
 unfoldable pub size : Mode → ℕ

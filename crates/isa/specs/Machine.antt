@@ -1,5 +1,6 @@
 -- The one-at-a-time machine: one step does the instruction at its address and mode.
-use Rattle.std.specs.Prelude.{suc, zero, ℕ, replicate, set, Bool, ◌&&◌, ◌||◌, cond, false, not, true, List, [], ◌++◌, ◌∷◌}
+use Rattle.std.specs.Prelude.{suc, zero, ℕ, replicate, set, Bool, ◌&&◌, ◌||◌, cond, false, not, true, List, [], ◌++◌}
+use Rattle.std.specs.Prelude.{◌∷◌}
 use Rattle.word.specs.Words.{cut32}
 use Rattle.isa.specs.Effect.{effect_of, fall}
 use Rattle.isa.specs.Inquiries.{fill, look_up}

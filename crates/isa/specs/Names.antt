@@ -10,7 +10,8 @@ pub use Rattle.isa.specs.declared.Instruction.TheVariants.{Div, Mod, Mulh, Divu,
 pub use Rattle.isa.specs.declared.Instruction.TheVariants.{Ldih, Unknown, Iret, Syscall, Mfsr, Mtsr}
 pub use Rattle.isa.specs.declared.ShortInstruction.{ShortInstruction}
 pub use Rattle.isa.specs.declared.ShortInstruction.TheVariants.{Mov as ShortMov, Add as ShortAdd, Addi as ShortAddi}
-pub use Rattle.isa.specs.declared.ShortInstruction.TheVariants.{Ld as ShortLd, St as ShortSt, Bz as ShortBz, Bnz as ShortBnz}
+pub use Rattle.isa.specs.declared.ShortInstruction.TheVariants.{Ld as ShortLd, St as ShortSt, Bz as ShortBz}
+pub use Rattle.isa.specs.declared.ShortInstruction.TheVariants.{Bnz as ShortBnz}
 pub use Rattle.isa.specs.declared.ShortInstruction.TheVariants.{Jr as ShortJr, Jal as ShortJal, Ldi as ShortLdi}
 pub use Rattle.isa.specs.declared.ShortInstruction.TheVariants.{Ret as ShortRet, Unknown as ShortUnknown}
 pub use Rattle.isa.specs.declared.RawInstr.{RawInstr}

@@ -4,8 +4,10 @@ use Rattle.word.specs.Words.{word_of}
 use Rattle.isa.specs.Names.{Add, Addi, And, Beq, Bne, Cpuid, DecNormal, DecShort, Decoded, Dest, Div, Divu, Halt}
 use Rattle.isa.specs.Names.{Instruction, Iret, Jal, Jalr, Jalrs, Jals, Jmp, Jmps, Jr, Jrs, Ld, Ldb, Ldh, Ldih}
 use Rattle.isa.specs.Names.{Ldil, Mfsr, Mod, Mtsr, Mul, Mulh, NoDest, Nop, Operands, Or, Reg, ShortInstruction}
-use Rattle.isa.specs.Names.{Sla, Sll, Slt, Sltu, Sra, Srl, St, Stb, Sth, Sub, Syscall, Unknown, Xor, ShortAdd, ShortAddi}
-use Rattle.isa.specs.Names.{ShortBnz, ShortBz, ShortJal, ShortJr, ShortLd, ShortLdi, ShortMov, ShortRet, ShortSt, ShortUnknown}
+use Rattle.isa.specs.Names.{Sla, Sll, Slt, Sltu, Sra, Srl, St, Stb, Sth, Sub, Syscall, Unknown, Xor, ShortAdd}
+use Rattle.isa.specs.Names.{ShortAddi}
+use Rattle.isa.specs.Names.{ShortBnz, ShortBz, ShortJal, ShortJr, ShortLd, ShortLdi, ShortMov, ShortRet, ShortSt}
+use Rattle.isa.specs.Names.{ShortUnknown}
 
 -- Register 15 of a halfword means R31, the others themselves.
 unfoldable pub gpr : ℕ → ℕ

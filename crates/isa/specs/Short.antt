@@ -1,7 +1,8 @@
 -- Short decode: the top nibble says which instruction; 10 to 14 are unknown.
 use Rattle.std.specs.Prelude.{◌%◌, ◌+◌, ◌-◌, ◌/◌, ◌^◌, ℕ, ◌==◌, nat_lt, negsuc, pos, ℤ, cond}
 use Rattle.isa.specs.Names.{DecNormal, DecShort, Decoded, RawInstr, RawNormal, RawShort, ShortInstruction, ShortAdd}
-use Rattle.isa.specs.Names.{ShortAddi, ShortBnz, ShortBz, ShortJal, ShortJr, ShortLd, ShortLdi, ShortMov, ShortRet, ShortSt, ShortUnknown}
+use Rattle.isa.specs.Names.{ShortAddi, ShortBnz, ShortBz, ShortJal, ShortJr, ShortLd, ShortLdi, ShortMov, ShortRet}
+use Rattle.isa.specs.Names.{ShortSt, ShortUnknown}
 
 -- nibble k of a halfword, counted from the low end
 unfoldable pub nibble : ℕ → ℕ → ℕ

@@ -1,6 +1,7 @@
 // Forwarding out of one latch, over the value of an older place.
 ghost use Rattle.std.specs.Prelude.{◌≡◌};
-ghost use Rattle.latch.specs.Forwarding.{cpuid_word, ex_mem_holds, forward_from, from_ex_mem, from_mem_wb, mem_wb_holds};
+ghost use Rattle.latch.specs.Forwarding.{cpuid_word, ex_mem_holds, forward_from, from_ex_mem, from_mem_wb};
+ghost use Rattle.latch.specs.Forwarding.{mem_wb_holds};
 
 use crate::{ExMem, MemWb};
 use isa::registers::{PROCESSOR_NAME, read_reg};

@@ -1,6 +1,7 @@
 -- The rows, by computation. Assumes nothing.
 use mathlib.Core.Path.{refl}
-use Rattle.isa.specs.Effect.{effect_n, effect_of, gives, goes_on, identifies, marked, no_access, no_marks, no_result, nothing}
+use Rattle.isa.specs.Effect.{effect_n, effect_of, gives, goes_on, identifies, marked, no_access, no_marks, no_result}
+use Rattle.isa.specs.Effect.{nothing}
 use Rattle.isa.specs.Effect.{reaches, written}
 use Rattle.isa.specs.Machine.{dest_of}
 use Rattle.isa.specs.Operands.{bare, binary, branching, gpr, loading, operands_n, operands_of, operands_s, plain, unary}

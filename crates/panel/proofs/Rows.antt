@@ -6,7 +6,8 @@ use Rattle.isa.specs.Refusals.{instruction_code}
 use Rattle.runs.specs.Rows.{halt_sheet}
 use Rattle.runs.specs.Run.{ran, run_code}
 use Rattle.sheet.specs.Records.{both, line_if, plain_of, record_of, within, zeros}
-use Rattle.sheet.specs.Sheet.{bad_length, code_at, first_code, first_refused, limited_code, record_at, record_code, sheet_code}
+use Rattle.sheet.specs.Sheet.{bad_length, code_at, first_code, first_refused, limited_code, record_at, record_code}
+use Rattle.sheet.specs.Sheet.{sheet_code}
 use Rattle.panel.proofs.Tests.{within_is}
 use Rattle.panel.specs.Panel.{panel_code, previewed}
 use Rattle.panel.specs.Rows.{Rows, unknown_sheet}

@@ -16,7 +16,8 @@ use Rattle.stages.specs.Execute.{effect_for, executed, executed_by, inquiry_by, 
 use Rattle.stages.specs.Fetch.{fetches, next_id_ex, predicted}
 use Rattle.stages.specs.Loads.{loads_in, want_load}
 use Rattle.stages.specs.Move.{free_move, inquiry_in, is_wait, move, next_ex_mem, waits_on}
-use Rattle.stages.specs.Plans.{advance_plan, front_of, id_ex_from, open_ex_mem, plan_fetches, plan_of, said_ex_mem, waited}
+use Rattle.stages.specs.Plans.{advance_plan, front_of, id_ex_from, open_ex_mem, plan_fetches, plan_of, said_ex_mem}
+use Rattle.stages.specs.Plans.{waited}
 use Rattle.stages.specs.Retire.{retire_stages}
 use Rattle.pipeline.proofs.Refusing.{fits_false, tick_code}
 use Rattle.pipeline.specs.Advance.{advance, move_of, next}

@@ -6,7 +6,8 @@ use mathlib.Core.Path.{◌∙◌, ◌≡◌}
 use Rattle.isa.proofs.Bools.{split}
 use Rattle.isa.specs.Inquiries.{look_up}
 use Rattle.isa.specs.Machine.{Source}
-use Rattle.pipeline.proofs.Running.{fetch_at_lem, no_fetch, no_special, plan_next, wait_next, want_fetch_lem, want_special_lem}
+use Rattle.pipeline.proofs.Running.{fetch_at_lem, no_fetch, no_special, plan_next, wait_next, want_fetch_lem}
+use Rattle.pipeline.proofs.Running.{want_special_lem}
 use Rattle.pipeline.specs.Advance.{next}
 use Rattle.pipeline.specs.Ask.{fetch_at, want_fetch, want_special}
 use Rattle.pipeline.specs.Inner.{Retired}

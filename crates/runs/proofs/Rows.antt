@@ -1,6 +1,7 @@
 -- The rows, by computation. Assumes nothing.
 use mathlib.Core.Path.{refl}
-use Rattle.isa.specs.Effect.{branches, effect_n, effect_of, effect_s, fall, gives, goes_by, goes_on, identifies, inquires}
+use Rattle.isa.specs.Effect.{branches, effect_n, effect_of, effect_s, fall, gives, goes_by, goes_on, identifies}
+use Rattle.isa.specs.Effect.{inquires}
 use Rattle.isa.specs.Effect.{jumps, links, marked, no_access, no_marks, no_result, nothing, privileged, raises, reaches}
 use Rattle.isa.specs.Effect.{resumes, sets, size, stops, written}
 use Rattle.isa.specs.Inquiries.{fill, is_inquiry, is_said, look_up, mfsr_with}
@@ -24,13 +25,16 @@ use Rattle.pipeline.specs.Ask.{fetch_at, want_fetch, want_special}
 use Rattle.pipeline.specs.Refusals.{and_then, state_tests}
 use Rattle.pipeline.specs.Retire.{retire}
 use Rattle.pipeline.specs.Start.{fresh}
-use Rattle.pipeline.specs.Tick.{fits_offer, fits_special, given_tests, is_answer, offer_code, raw_of, same, taken, tests}
+use Rattle.pipeline.specs.Tick.{fits_offer, fits_special, given_tests, is_answer, offer_code, raw_of, same, taken}
+use Rattle.pipeline.specs.Tick.{tests}
 use Rattle.pipeline.specs.Tick.{tick, verdict, word_in}
 use Rattle.pipeline.specs.Turn.{reply}
-use Rattle.sheet.specs.Records.{both, far_of, half_of, jump_of, line_if, offset_of, plain_of, record_of, three_of, within}
+use Rattle.sheet.specs.Records.{both, far_of, half_of, jump_of, line_if, offset_of, plain_of, record_of, three_of}
+use Rattle.sheet.specs.Records.{within}
 use Rattle.sheet.specs.Records.{zeros}
 use Rattle.sheet.specs.Samples.{mfsr_sheet, mfsr_table}
-use Rattle.sheet.specs.Sheet.{bad_length, code_at, first_code, first_refused, limited_code, line_offer, offer_at, offer_in}
+use Rattle.sheet.specs.Sheet.{bad_length, code_at, first_code, first_refused, limited_code, line_offer, offer_at}
+use Rattle.sheet.specs.Sheet.{offer_in}
 use Rattle.sheet.specs.Sheet.{pair_offer, record_at, record_code, sheet_code, table_of, unknown_of}
 use Rattle.sheet.specs.Turns.{turn_by}
 use Rattle.stages.specs.Advance.{advance_by, advance_stages, awake, id_ex_after, if_id_after, place_after, wait_after}
@@ -38,7 +42,8 @@ use Rattle.stages.specs.Counting.{count_idle, count_retired, counted, counter_fu
 use Rattle.stages.specs.Execute.{effect_for, executed, executed_by, inquiry_by, inquiry_of, redirect_by, redirect_of}
 use Rattle.stages.specs.Fetch.{fetch_from, fetch_place, fetched, fetches, next_id_ex, place_or, predicted}
 use Rattle.stages.specs.Loads.{loads_in, want_load}
-use Rattle.stages.specs.Move.{begins_wait, free_move, hazard, inquiry_in, is_slow, is_wait, move, move_from, next_ex_mem}
+use Rattle.stages.specs.Move.{begins_wait, free_move, hazard, inquiry_in, is_slow, is_wait, move, move_from}
+use Rattle.stages.specs.Move.{next_ex_mem}
 use Rattle.stages.specs.Move.{proceed_or, waits_on}
 use Rattle.stages.specs.Refusals.{faulty, out_of_bounds}
 use Rattle.stages.specs.Retire.{retire_stages}

@@ -1,5 +1,6 @@
 -- The step sheet: record k, five bytes, stands for addresses 4k to 4k + 3.
-use Rattle.std.specs.Prelude.{◌%◌, ◌*◌, ◌+◌, ◌/◌, suc, zero, ℕ, ◌==◌, nat_lt, slice_index, length, Bool, ◌||◌, cond, not, List}
+use Rattle.std.specs.Prelude.{◌%◌, ◌*◌, ◌+◌, ◌/◌, suc, zero, ℕ, ◌==◌, nat_lt, slice_index, length, Bool, ◌||◌, cond}
+use Rattle.std.specs.Prelude.{not, List}
 use Rattle.isa.specs.Inquiries.{NotMfsr}
 use Rattle.isa.specs.Machine.{Source}
 use Rattle.isa.specs.Refusals.{instruction_code}

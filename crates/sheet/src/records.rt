@@ -1,7 +1,8 @@
 // A record's instruction, by its command byte and four operand bytes.
 ghost use Rattle.std.specs.Prelude.{◌≡◌};
 ghost use Rattle.isa.specs.Short.{low_bits};
-ghost use Rattle.sheet.specs.Records.{both, far_of, half_of, jump_of, line_if, offset_of, plain_of, record_of, three_of};
+ghost use Rattle.sheet.specs.Records.{both, far_of, half_of, jump_of, line_if, offset_of, plain_of, record_of};
+ghost use Rattle.sheet.specs.Records.{three_of};
 ghost use Rattle.sheet.specs.Records.{zeros};
 
 use crate::Record;

@@ -1,16 +1,16 @@
 -- Words: numbers below 2 ^ 32. Sums wrap, and a signed word is read by two's complement.
-use Rattle.std.specs.Prelude.{ℕ, ◌+◌, ◌-◌, ◌*◌, ◌/◌, ◌%◌, ◌^◌, Bool, true, false, cond, ℤ, ◌*ℤ◌, ◌==◌, bit_and, bit_or, bit_xor, int_div, int_lt, int_rem, nat_lt}
+use Rattle.std.specs.Prelude.{ℕ, ◌+◌, ◌-◌, ◌*◌, ◌/◌, ◌%◌, ◌^◌, Bool, true, false, cond, ℤ, ◌*ℤ◌, ◌==◌, bit_and, bit_or}
+use Rattle.std.specs.Prelude.{bit_xor, int_div, int_lt, int_rem, nat_lt}
 use Rattle.std.specs.Int.Signed.{shr_z}
-use Rattle.std.specs.Int.{w32}
-use Rattle.std.proofs.Common.{to_z, of_z}
+use Rattle.std.specs.Int.{cast_signed, cast_unsigned, w32}
 
 -- a word as a signed number
 abbrev pub signed : ℕ → ℤ
-signed x = to_z w32 x
+signed x = cast_signed w32 x
 
 -- the word of a signed number
 abbrev pub word_of : ℤ → ℕ
-word_of z = of_z w32 z
+word_of z = cast_unsigned w32 z
 
 -- 1 for true, 0 for false
 unfoldable pub bit : Bool → ℕ
