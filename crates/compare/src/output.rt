@@ -1,7 +1,5 @@
 // Lines of numbers, written to a buffer and from there to a writer.
-ghost use Rattle.std.specs.Prelude.{◌<◌, ◌≡◌, drop};
-ghost use Rattle.compare.specs.Hex.{hex_digit, hexadecimal};
-
+use digits::{Base, put_digits};
 use std::io::{Result, Write};
 
 fn put(out: &mut [u8], at: usize, b: u8) {
@@ -12,36 +10,6 @@ fn put(out: &mut [u8], at: usize, b: u8) {
 
 fn wide(x: u32) -> u64 {
     x as u64
-}
-
-// The digit of the lowest four bits.
-#[tactic(auto, unfolding(crate::specs::Hex::hex_digit))]
-fn last_digit(n: u64) -> u8
-    ensures { result ≡ hex_digit n }
-{
-    let d = (n % 16) as u8;
-    if d < 10 {
-        return d + b'0';
-    }
-    d - 10 + b'a'
-}
-
-// Puts a number's digits at the end of a text and answers where they begin.
-#[tactic(auto, unfolding(crate::specs::Hex::digits_in, crate::specs::Hex::hexadecimal))]
-fn put_digits(text: &mut [u8; 16], n: u64) -> usize
-    ensures within { result < 16 }
-    ensures digits { drop result text.new ≡ hexadecimal n }
-{
-    let mut from = 16;
-    let mut rest = n;
-    while rest > 15 {
-        from -= 1;
-        text[from] = last_digit(rest);
-        rest /= 16;
-    }
-    from -= 1;
-    text[from] = last_digit(rest);
-    from
 }
 
 // Puts a text.
@@ -55,10 +23,10 @@ fn put_text(out: &mut [u8], at: usize, text: &[u8]) {
 
 // Puts a number's digits and answers the place behind them.
 fn put_number(out: &mut [u8], at: usize, x: u32) -> usize {
-    let mut text = [0u8; 16];
-    let from = put_digits(&mut text, wide(x));
+    let mut text = [0u8; 20];
+    let from = put_digits(Base::Hexadecimal, wide(x), &mut text);
     put_text(out, at, &text[from..]);
-    std::num::wrapping_add_usize(at, 16 - from)
+    std::num::wrapping_add_usize(at, 20 - from)
 }
 
 // The same behind a space, unless the number is a line's first.

@@ -1,3 +1,4 @@
 pub mod Put
 pub mod Whole
 pub mod Claims
+pub mod Decimal

@@ -1,7 +1,9 @@
 // Text put into a lent buffer from a place on. Each function answers the place behind what it put.
-ghost use Rattle.std.specs.Prelude.{[], ◌%◌, ◌+◌, ◌<◌, ◌∷◌, ◌≡◌, drop};
+ghost use Rattle.std.specs.Prelude.{[], ◌∷◌};
 ghost use Rattle.report.specs.Ascii.{decimal, line, value};
 ghost use Rattle.report.specs.Inner.{Puts};
+
+use digits::{Base, put_digits};
 
 // One byte.
 fn put(out: &mut [u8], at: usize, b: u8) -> usize
@@ -27,37 +29,12 @@ pub(crate) fn put_bytes(out: &mut [u8], at: usize, bytes: &[u8]) -> usize
     to
 }
 
-// A number's last digit.
-fn last_digit(n: u64) -> u8
-    ensures { result ≡ 48 + n % 10 }
-{
-    b'0' + (n % 10) as u8
-}
-
-// Puts a number's digits at the end of a buffer and answers where they begin.
-#[tactic(auto, unfolding(crate::specs::Ascii::decimal, crate::specs::Ascii::digits_in))]
-fn put_digits(out: &mut [u8; 20], n: u64) -> usize
-    ensures within { result < 20 }
-    ensures digits { drop result out.new ≡ decimal n }
-{
-    let mut from = 20;
-    let mut rest = n;
-    while rest > 9 {
-        from -= 1;
-        out[from] = last_digit(rest);
-        rest /= 10;
-    }
-    from -= 1;
-    out[from] = last_digit(rest);
-    from
-}
-
 // A number in decimal.
 pub(crate) fn put_number(out: &mut [u8], at: usize, n: u64) -> usize
     ensures { Puts out.old at (decimal n) out.new result }
 {
     let mut digits = [0u8; 20];
-    let from = put_digits(&mut digits, n);
+    let from = put_digits(Base::Decimal, n, &mut digits);
     put_bytes(out, at, &digits[from..])
 }
 
