@@ -8,6 +8,8 @@ use mathlib.Core.Bool.{Bool, ◌&&◌, cond, false, false≢true, not, true}
 use mathlib.Core.List.{List, [], ◌++◌, ◌∷◌, append-nil}
 use mathlib.Core.Path.{◌∙◌, ◌≡◌, ap, refl, subst, sym}
 use native.Mathlib.Omega.{arith}
+use Rattle.std.specs.Bool.{then_some}
+use Rattle.std.specs.Prelude.{Err, Ok, Result, Some}
 use Rattle.isa.proofs.Bools.{all3, split}
 use Rattle.isa.proofs.Machine.{walk}
 use Rattle.isa.specs.Machine.{Arch, Machine, Program, arch_with, first, is_empty, machine, rest, whole_program}
@@ -16,10 +18,10 @@ use Rattle.latch.specs.Latches.{empty_if_id, empty_mem_wb}
 use Rattle.latch.specs.Memory.{loads, requests}
 use Rattle.latch.specs.Retire.{halts, is_faulty}
 use Rattle.pipeline.specs.Advance.{advance, move_of, next, resting}
-use Rattle.pipeline.specs.Ask.{asks, fetch_at, want_fetch, want_special}
+use Rattle.pipeline.specs.Ask.{asks, fetch_at, fetch_wanted, want_fetch, want_special}
 use Rattle.pipeline.specs.Retire.{retire}
 use Rattle.pipeline.specs.Start.{fresh}
-use Rattle.pipeline.specs.Tick.{Result, moved, raw_of, refused, taken, tick, word_in}
+use Rattle.pipeline.specs.Tick.{fits_offer, raw_of, taken, tick, word_in}
 use Rattle.stages.specs.Advance.{awake}
 use Rattle.stages.specs.Counting.{count_idle, count_retired}
 use Rattle.stages.specs.Execute.{inquiry_of}
@@ -38,9 +40,9 @@ use Rattle.accuracy.proofs.Path.{due}
 use Rattle.accuracy.proofs.Timing.{bound, due_time, time_path}
 use Rattle.accuracy.proofs.Took.{Took, advance_regs, advance_retire_mode, advance_retire_pc, advance_retired}
 use Rattle.accuracy.proofs.Took.{advance_running, offer_is, offer_ok, retire_off, took}
-use Rattle.accuracy.specs.Accuracy.{Demand3, Demand3For, Retires, Run, after, answers, begin}
-use Rattle.accuracy.specs.Accuracy.{first_offer, first_said, offered, one, one_by, said}
-use Rattle.accuracy.specs.Names.{Given, MemWb, Move, Of, PipelineCpu, RawInstr, Request, Start, Taken}
+use Rattle.accuracy.specs.Accuracy.{Demand3, Demand3For, Retires, Run, after, answers, begin, first_offer, first_said}
+use Rattle.accuracy.specs.Accuracy.{offered, one, one_by, said}
+use Rattle.accuracy.specs.Names.{Given, MemWb, Move, PipelineCpu, RawInstr, Refusal, Request, Start, Taken}
 
 module _ (prog : Program) (w₀ : Arch) (len : length w₀.reg ≡ 32) (nought : get_or w₀.reg 0 0 ≡ 0) where
   pub data Inv (r : Run) (left : List ℕ) (k : ℕ) : Type 0 where
@@ -180,20 +182,25 @@ module _ (prog : Program) (w₀ : Arch) (len : length w₀.reg ≡ 32) (nought :
     left_on = sym (lft.next ∙ ap (λ (b : Bool). cond b (rest left) left)
         (want_load_lem (s₁.stages.ex_mem.valid && loads s₁.stages.ex_mem) refl))
 
+    fits : want_fetch r.state ≡ true → fits_offer (Some (fetch_at r.state)) t.offer ≡ true
+    unfolding fetch_wanted
+    fits e = ap (λ (b : Bool). fits_offer (then_some b (fetch_at r.state)) t.offer) (sym e) ∙ tk.fetch
+
     hi : s₁.stages.running ≡ true → (m : Move) → move_of s₁ ≡ m → fetches m ≡ true →
         (decoded_of i₁ ≡ prog.instruction (fetch_place m s₁.stages).pc (fetch_place m s₁.stages).mode) ×
         (ok_in (decoded_of i₁) (fetch_place m s₁.stages).mode ≡ true)
     unfolding want_fetch fetch_at taken
     hi ru m e w =
-        let wf : want_fetch r.state ≡ true = all3 _ _ _ aw ru (ap fetches e ∙ w) in
-        let o = offer_is t.offer (want_fetch r.state) (fetch_at r.state).mode tk.fetch wf in (
+        let fit = fits (all3 _ _ _ aw ru (ap fetches e ∙ w)) in
+        let o = offer_is t.offer (fetch_at r.state) fit in (
           off.offer i₁ o ∙ ap (λ (x : Move). prog.instruction (fetch_place x s₁.stages).pc
               (fetch_place x s₁.stages).mode) e,
-          ap (λ (x : Move). ok_in (decoded_of i₁) (fetch_place x s₁.stages).mode) (sym e) ∙ offer_ok t.offer
-              (want_fetch r.state) (fetch_at r.state).mode tk.fetch wf tk.fair,
+          ap (λ (x : Move). ok_in (decoded_of i₁) (fetch_place x s₁.stages).mode) (sym e)
+              ∙ offer_ok t.offer (fetch_at r.state) fit tk.fair,
         )
 
-    hc : is_wait (move_of s₁) ≡ false → (n : ℕ) → inquiry_of s₁.stages s₁.reg ≡ Of n → t.special ≡ prog.table n
+    hc : is_wait (move_of s₁) ≡ false → (n : ℕ) → inquiry_of s₁.stages s₁.reg ≡ Some n
+        → t.special ≡ prog.table n
     unfolding want_special inquiry_in
     hc w n e = off.special n (rw (aw, w) e)
 
@@ -237,7 +244,7 @@ module _ (prog : Program) (w₀ : Arch) (len : length w₀.reg ≡ 32) (nought :
 
   idle_over : (r : Run) (t : Given) (s' : PipelineCpu) (left : List ℕ) (k : ℕ) → r.state.stages.running ≡ false →
       r.state.counts.instructions_executed ≡ k → Took r.state t s'
-      → Inv (one_by (moved s') t r) left k
+      → Inv (one_by (Ok s') t r) left k
   unfolding one_by
   idle_over r t s' left k e c tk =
       let h : resting r.state ≡ s' = sym (go_rest r.state (taken t) (over_awake r.state e)) ∙ tk.is in
@@ -245,16 +252,16 @@ module _ (prog : Program) (w₀ : Arch) (len : length w₀.reg ≡ 32) (nought :
       (ap (λ (x : PipelineCpu). x.counts.instructions_executed) (sym h) ∙ rest_retired r.state ∙ c)
 
   -- a tick
-  pub step_by : (r : Run) (t : Given) (o : Result) → tick r.state t ≡ o → (left left' : List ℕ) (k : ℕ) → Inv r
-      left k
-      → ((s : PipelineCpu) → o ≡ moved s → Meets prog r.state t)
+  pub step_by : (r : Run) (t : Given) (o : Result PipelineCpu Refusal) → tick r.state t ≡ o → (left left' : List ℕ)
+      (k : ℕ) → Inv r left k
+      → ((s : PipelineCpu) → o ≡ Ok s → Meets prog r.state t)
       → FeedsBy prog o r.state t left left' → Step r (one_by o t r) left' k
   unfolding FeedsBy one_by
-  step_by r t (refused c) e left left' k i off lft = quiet (subst (λ (x : List ℕ). Inv r x k) lft i) (λ z. z)
-  step_by r t (moved s') e left left' k (live n₁ n₂ t₀ lv clock) off lft =
+  step_by r t (Err c) e left left' k i off lft = quiet (subst (λ (x : List ℕ). Inv r x k) lft i) (λ z. z)
+  step_by r t (Ok s') e left left' k (live n₁ n₂ t₀ lv clock) off lft =
       accepted r t s' left left' k n₁ n₂ t₀ lv clock (live_awake r.state lv.running) (took r.state t s' e)
       (off s' refl) lft
-  step_by r t (moved s') e left left' k (over ru c) off lft =
+  step_by r t (Ok s') e left left' k (over ru c) off lft =
       quiet (idle_over r t s' left' k ru c (took r.state t s' e)) (λ z. absurd (false≢true (sym ru ∙ z)))
 
   -- the list

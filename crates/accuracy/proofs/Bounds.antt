@@ -2,29 +2,27 @@
 use Prim.Native.Nat.{◌≤◌, ℕ}
 use borrow.Author.Tests.{le-ltb, ltb-false, ltb-true}
 use lib.Dec.{ltb}
-use mathlib.Core.Bool.{Bool, ◌&&◌, cond, false, not, true}
+use mathlib.Core.Bool.{Bool, cond, false, not, true}
 use mathlib.Core.List.{List}
-use mathlib.Core.Path.{ap, ◌≡◌, refl, subst}
+use mathlib.Core.Path.{◌≡◌, refl, subst}
 use native.Mathlib.Omega.{arith}
-use Rattle.isa.proofs.Bools.{or_l, or_r, split, un_not}
-use Rattle.isa.proofs.NoCode.{no_code, none}
+use Rattle.std.specs.Prelude.{None, Ok, Option, Some, is_some}
+use Rattle.isa.proofs.Bools.{both_l, both_r, or_l, or_r, split, un_not}
 use Rattle.isa.specs.Effect.{gives, goes_on, marked, no_access, raises}
-use Rattle.isa.specs.Inquiries.{fill, is_inquiry, mfsr_with}
-use Rattle.isa.specs.Machine.{dest_of}
+use Rattle.isa.specs.Inquiries.{fill, mfsr_with}
 use Rattle.isa.specs.Operands.{bare, ok_dest, ok_operands, operands_n, operands_of, plain}
-use Rattle.isa.specs.Redirects.{is_exception, is_to}
-use Rattle.isa.specs.Refusals.{decoded_code, instruction_code, raw_code}
+use Rattle.isa.specs.Refusals.{ok_decoded, ok_instruction, ok_raw}
 use Rattle.isa.specs.Short.{decode_short, decoded_of}
 use Rattle.latch.specs.Bounds.{bad_ex_mem, bad_id_ex, bad_if_id, bad_mem_wb, bad_width}
 use Rattle.latch.specs.Decode.{decode_predicted, id_ex_by, id_ex_of}
-use Rattle.latch.specs.Execute.{effect_from, effect_in, ex_mem_of}
+use Rattle.latch.specs.Execute.{effect_from, effect_in, ex_mem_of, raised_or}
 use Rattle.latch.specs.Latches.{cleared, empty_ex_mem, empty_id_ex, empty_if_id, empty_mem_wb}
 use Rattle.latch.specs.Memory.{dest_after, loads, mem_wb_of, passed_on, stores, value_after, writes_after}
 use Rattle.latch.specs.Retire.{halts}
 use Rattle.pipeline.specs.Advance.{advance, move_of, next, resting}
 use Rattle.pipeline.specs.Retire.{retire}
 use Rattle.pipeline.specs.Start.{fresh}
-use Rattle.pipeline.specs.Tick.{moved, offer_code, raw_of, taken, tick}
+use Rattle.pipeline.specs.Tick.{ok_offer, raw_of, taken, tick}
 use Rattle.stages.specs.Advance.{advance_by, advance_stages, awake, id_ex_after, if_id_after, place_after, wait_after}
 use Rattle.stages.specs.Counting.{counted, flushes, stalls}
 use Rattle.stages.specs.Execute.{effect_for, executed, executed_by}
@@ -32,11 +30,11 @@ use Rattle.stages.specs.Fetch.{fetch_from, fetch_place, fetched, next_id_ex, pla
 use Rattle.stages.specs.Move.{is_wait, next_ex_mem}
 use Rattle.stages.specs.Refusals.{out_of_bounds}
 use Rattle.stages.specs.Retire.{retire_stages}
-use Rattle.accuracy.proofs.Instructions.{short_ok, sources_in, waits_in, width_in}
+use Rattle.accuracy.proofs.Instructions.{dest_in, short_ok, sources_in, waits_in, width_in}
 use Rattle.accuracy.proofs.Took.{took}
-use Rattle.accuracy.specs.Names.{Dest, Effect, ExMem, Given, IdEx, IfId, Instr, Mode, Move, NoSuch, Nothing, Offer}
-use Rattle.accuracy.specs.Names.{PipelineCpu, Place, RawInstr, RawNormal, RawShort, Special, SpecialWord, Stages}
-use Rattle.accuracy.specs.Names.{Start, Taken, Unsaid, begin_wait, keep_waiting, load_use_stall, proceed, redirect}
+use Rattle.accuracy.specs.Names.{Effect, ExMem, Exception, Given, IdEx, IfId, Mode, Move, PipelineCpu, Place}
+use Rattle.accuracy.specs.Names.{RawInstr, RawNormal, RawShort, Stages, Start, Taken, begin_wait, keep_waiting}
+use Rattle.accuracy.specs.Names.{load_use_stall, proceed, redirect}
 
 -- the bounds, one by one
 pub record Within (l : Stages) : Type 0 where
@@ -65,61 +63,59 @@ unfolding out_of_bounds
 in_bounds l w = rw (w.if_id, w.id_ex, w.ex_mem, w.mem_wb) (le-ltb 15 l.ex_cycles_left w.wait)
 
 -- operands in bounds
-in_three : (a b c : Bool) → (a && (b && c)) ≡ true → (a ≡ true) × (b ≡ true) × (c ≡ true)
-in_three true true true e = (refl, refl, refl)
-in_three true true false e = (cc, cc, cc)
-in_three true false c e = (cc, cc, cc)
-in_three false b c e = (cc, cc, cc)
-
 over : (n : ℕ) → ltb n 32 ≡ true → ltb 31 n ≡ false
 over n e = let h = ltb-true n 32 e in le-ltb 31 n (omega arith)
 
-raw_ok : (r : RawInstr) → ltb 0 (raw_code r) ≡ false → ok_operands (operands_of (decoded_of r)) ≡ true
-unfolding raw_code decoded_of operands_of
-raw_ok (RawNormal i) e = no_code i (none _ e)
+raw_ok : (r : RawInstr) → ok_raw r ≡ true → ok_operands (operands_of (decoded_of r)) ≡ true
+unfolding ok_raw ok_instruction decoded_of operands_of
+raw_ok (RawNormal i) e = e
 raw_ok (RawShort h) e = short_ok (decode_short h)
 
-raw_code_lem : (r : RawInstr) → ltb 0 (raw_code r) ≡ false → ltb 0 (decoded_code (decoded_of r)) ≡ false
-unfolding raw_code decoded_code decoded_of
-raw_code_lem (RawNormal i) e = e
-raw_code_lem (RawShort h) e = refl
+raw_decoded : (r : RawInstr) → ok_raw r ≡ true → ok_decoded (decoded_of r) ≡ true
+unfolding ok_raw ok_decoded decoded_of
+raw_decoded (RawNormal i) e = e
+raw_decoded (RawShort h) e = refl
 
-decoded_in : (g : Bool) (r : RawInstr) (p : ℕ) (m : Mode) (rs : List ℕ) → ltb 0 (raw_code r) ≡ false → bad_id_ex
-    (id_ex_of g (decoded_of r) p m rs) ≡ false
+decoded_in : (g : Bool) (r : RawInstr) (p : ℕ) (m : Mode) (rs : List ℕ) → ok_raw r ≡ true
+    → bad_id_ex (id_ex_of g (decoded_of r) p m rs) ≡ false
 unfolding bad_id_ex id_ex_of id_ex_by ok_operands
 decoded_in g r p m rs e =
     let o = operands_of (decoded_of r) in
-    let q = in_three (ltb o.src_a 32) (ltb o.src_b 32) (ok_dest o.dest) (raw_ok r e) in
-    rw (raw_code_lem r e, q.2, over _ q.0, over _ q.1, sources_in (decoded_of r))
+    let q = raw_ok r e in
+    let q₁ = both_r (ltb o.src_a 32) _ q in
+    rw (raw_decoded r e, both_r (ltb o.src_b 32) _ q₁, over _ (both_l _ _ q), over _ (both_l _ _ q₁))
+    (sources_in (decoded_of r))
 
 empty_id_ex_lem : bad_id_ex empty_id_ex ≡ false
-unfolding bad_id_ex empty_id_ex decoded_code instruction_code ok_operands operands_n bare plain ok_dest
+unfolding bad_id_ex empty_id_ex ok_decoded ok_instruction ok_operands operands_n bare plain ok_dest
 empty_id_ex_lem = refl
 
 empty_ex_mem_lem : bad_ex_mem empty_ex_mem ≡ false
-unfolding bad_ex_mem empty_ex_mem decoded_code instruction_code bad_width ok_operands operands_n bare plain ok_dest
+unfolding bad_ex_mem empty_ex_mem ok_decoded ok_instruction bad_width ok_operands operands_n bare plain ok_dest
 empty_ex_mem_lem = refl
 
 -- what execute and memory make
-dest_in : (e : Effect) (d : Dest) → ok_dest d ≡ true → ok_dest (dest_of e d) ≡ true
-unfolding dest_of ok_dest
-dest_in e d h = split e.alu.writes (λ z. rw z h) (λ z. rw z)
+raised_in : (x : Option Exception) (e : Effect) → bad_width e.access.mem_size ≡ false
+    → bad_width (raised_or x e).access.mem_size ≡ false
+unfolding raised_or raises marked no_access bad_width
+raised_in None e h = h
+raised_in (Some x) e h = refl
 
 effect_in_lem : (u : Bool) (l : IdEx) (x y : ℕ) → bad_width (effect_in u l x y).access.mem_size ≡ false
-unfolding effect_in raises marked no_access bad_width
-effect_in_lem u l x y = split (is_exception l.exception) (λ e. rw e) (λ e. rw e (width_in u l.decoded l.pc x y))
+unfolding effect_in
+effect_in_lem u l x y = raised_in l.exception _ (width_in u l.decoded l.pc x y)
 
-said_in : (c : Special) → bad_width (mfsr_with c).access.mem_size ≡ false
+said_in : (c : Option (Option ℕ)) → bad_width (mfsr_with c).access.mem_size ≡ false
 unfolding mfsr_with raises marked gives goes_on no_access bad_width
-said_in Unsaid = refl
-said_in NoSuch = refl
-said_in (SpecialWord v) = refl
+said_in None = refl
+said_in (Some None) = refl
+said_in (Some (Some v)) = refl
 
 -- what is said changes no width
-fill_in : (c : Special) (e : Effect) → bad_width e.access.mem_size ≡ false
+fill_in : (c : Option (Option ℕ)) (e : Effect) → bad_width e.access.mem_size ≡ false
     → bad_width (fill c e).access.mem_size ≡ false
 unfolding fill
-fill_in c e h = split (is_inquiry e.inquiry)
+fill_in c e h = split (is_some e.inquiry)
     (λ q. rw q (said_in c))
     (λ q. rw q h)
 
@@ -127,11 +123,11 @@ latch_in : (l : IdEx) (e : Effect) → bad_id_ex l ≡ false → bad_width e.acc
     → bad_ex_mem (ex_mem_of l e) ≡ false
 unfolding bad_id_ex bad_ex_mem ex_mem_of
 latch_in l e h w =
-    let c = or_l (ltb 0 (decoded_code l.decoded)) _ h in
-    let d = un_not _ (or_l (not (ok_dest l.dest)) _ (or_r (ltb 0 (decoded_code l.decoded)) _ h)) in
+    let c = or_l (not (ok_decoded l.decoded)) _ h in
+    let d = un_not _ (or_l (not (ok_dest l.dest)) _ (or_r (not (ok_decoded l.decoded)) _ h)) in
     rw (c, dest_in e l.dest d, w)
 
-execute_in : (s : PipelineCpu) (c : Special) → bad_id_ex s.stages.id_ex ≡ false
+execute_in : (s : PipelineCpu) (c : Option (Option ℕ)) → bad_id_ex s.stages.id_ex ≡ false
     → bad_ex_mem (executed s.stages s.reg c) ≡ false
 unfolding executed executed_by effect_for effect_from
 execute_in s c e = by s.stages.id_ex.valid
@@ -151,18 +147,18 @@ memory_dest l v h = split l.valid
 memory_in : (l : ExMem) (v : ℕ) → bad_ex_mem l ≡ false → bad_mem_wb (mem_wb_of l v) ≡ false
 unfolding bad_ex_mem bad_mem_wb
 memory_in l v h =
-    rw (memory_dest l v (un_not _ (or_l (not (ok_dest l.dest)) _ (or_r (ltb 0 (decoded_code l.decoded)) _ h))))
+    rw (memory_dest l v (un_not _ (or_l (not (ok_dest l.dest)) _ (or_r (not (ok_decoded l.decoded)) _ h))))
 
 next_in : (s : PipelineCpu) → bad_if_id s.stages.if_id ≡ false → bad_id_ex (next_id_ex s.stages s.reg) ≡ false
 unfolding next_id_ex decode_predicted bad_if_id
 next_in s e = split s.stages.if_id.valid
-    (λ z. rw z (decoded_in _ s.stages.if_id.raw s.stages.if_id.pc s.stages.if_id.mode s.reg e))
+    (λ z. rw z (decoded_in _ s.stages.if_id.raw s.stages.if_id.pc s.stages.if_id.mode s.reg (un_not _ e)))
     (λ z. rw z empty_id_ex_lem)
 
-fetched_in : (b : Bool) (l : IfId) (q : Place) (i : RawInstr) → bad_if_id l ≡ false → ltb 0 (raw_code i) ≡ false → bad_if_id
-    (fetched b l q i) ≡ false
+fetched_in : (b : Bool) (l : IfId) (q : Place) (i : RawInstr) → bad_if_id l ≡ false → ok_raw i ≡ true
+    → bad_if_id (fetched b l q i) ≡ false
 unfolding fetched cleared bad_if_id
-fetched_in true l q i e h = h
+fetched_in true l q i e h = rw h
 fetched_in false l q i e h = e
 
 cleared_in : (l : IfId) → bad_if_id l ≡ false → bad_if_id (cleared l) ≡ false
@@ -198,10 +194,10 @@ retire_in l w = split (halts l.mem_wb)
       wait = rw e w.wait;
     })
 
-advance_in : (m : Move) (s : PipelineCpu) (x : Taken) → Within s.stages → ltb 0 (raw_code x.raw) ≡ false
+advance_in : (m : Move) (s : PipelineCpu) (x : Taken) → Within s.stages → ok_raw x.raw ≡ true
     → Within (advance m s x).stages
-unfolding advance advance_by advance_stages id_ex_after if_id_after is_wait wait_after place_after counted stalls flushes
-    place_or fetch_from next_ex_mem
+unfolding advance advance_by advance_stages id_ex_after if_id_after is_wait wait_after place_after counted stalls
+    flushes place_or fetch_from next_ex_mem
 advance_in keep_waiting s y w h = record {
   if_id = w.if_id;
   id_ex = w.id_ex;
@@ -217,7 +213,7 @@ advance_in begin_wait s y w h = record {
   wait = waits_in s.stages.id_ex.decoded;
 }
 advance_in (load_use_stall g) s y w h = record {
-  if_id = held_in (is_to g) s.stages.if_id w.if_id;
+  if_id = held_in (is_some g) s.stages.if_id w.if_id;
   id_ex = empty_id_ex_lem;
   ex_mem = execute_in s y.special w.id_ex;
   mem_wb = memory_in s.stages.ex_mem y.answer w.ex_mem;
@@ -233,10 +229,9 @@ advance_in proceed s y w h = record {
   wait =
       wait_in s.stages.ex_armed _ w.wait;
 }
-advance_in (redirect p m) s y w h = record {
-  if_id = cleared_in _ (fetched_in s.stages.running s.stages.if_id (fetch_place (redirect p m) s.stages)
-      y.raw w.if_id
-      h);
+advance_in (redirect t) s y w h = record {
+  if_id = cleared_in _
+      (fetched_in s.stages.running s.stages.if_id (fetch_place (redirect t) s.stages) y.raw w.if_id h);
   id_ex = empty_id_ex_lem;
   ex_mem = execute_in s y.special w.id_ex;
   mem_wb = memory_in s.stages.ex_mem y.answer w.ex_mem;
@@ -244,7 +239,7 @@ advance_in (redirect p m) s y w h = record {
       wait_in s.stages.ex_armed _ w.wait;
 }
 
-pub step_in : (s : PipelineCpu) (x : Taken) → Within s.stages → ltb 0 (raw_code x.raw) ≡ false
+pub step_in : (s : PipelineCpu) (x : Taken) → Within s.stages → ok_raw x.raw ≡ true
     → Within (next s x).stages
 unfolding next resting retire
 step_in s x w h = by (awake s.stages)
@@ -253,12 +248,12 @@ step_in s x w h = by (awake s.stages)
     by true = advance_in (move_of (retire s)) (retire s) x (retire_in s.stages w) h
     by false = w
 
-offer_in_lem : (o : Offer) → offer_code o ≡ 0 → ltb 0 (raw_code (raw_of o)) ≡ false
-unfolding offer_code raw_of raw_code instruction_code ok_operands operands_n bare plain ok_dest
-offer_in_lem Nothing e = refl
-offer_in_lem (Instr i) e = ap (ltb 0) e
+offer_in_lem : (o : Option RawInstr) → ok_offer o ≡ true → ok_raw (raw_of o) ≡ true
+unfolding ok_offer raw_of ok_raw ok_instruction ok_operands operands_n bare plain ok_dest
+offer_in_lem None e = refl
+offer_in_lem (Some i) e = e
 
-pub tick_in : (s : PipelineCpu) (t : Given) (s' : PipelineCpu) → tick s t ≡ moved s' → out_of_bounds s'.stages ≡ false
+pub tick_in : (s : PipelineCpu) (t : Given) (s' : PipelineCpu) → tick s t ≡ Ok s' → out_of_bounds s'.stages ≡ false
 unfolding taken
 tick_in s t s' e =
     let k = took s t s' e in
@@ -266,6 +261,6 @@ tick_in s t s' e =
     (step_in s (taken t) (within s.stages k.bounds) (offer_in_lem t.offer k.fair)))
 
 pub fresh_in : (v : Start) → out_of_bounds (fresh v).stages ≡ false
-unfolding fresh out_of_bounds bad_if_id bad_id_ex bad_ex_mem bad_mem_wb raw_code decoded_code instruction_code bad_width empty_if_id
-    empty_id_ex empty_ex_mem empty_mem_wb ok_operands operands_n bare plain ok_dest
+unfolding fresh out_of_bounds bad_if_id bad_id_ex bad_ex_mem bad_mem_wb ok_raw ok_decoded ok_instruction bad_width
+    empty_if_id empty_id_ex empty_ex_mem empty_mem_wb ok_operands operands_n bare plain ok_dest
 fresh_in v = refl

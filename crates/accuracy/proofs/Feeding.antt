@@ -3,13 +3,14 @@ use Prim.Native.Nat.{ℕ}
 use mathlib.Core.Bool.{Bool, cond, false, true}
 use mathlib.Core.List.{List, [], ◌++◌, ◌∷◌, append_assoc}
 use mathlib.Core.Path.{◌∙◌, ◌≡◌, ap, refl, sym}
+use Rattle.std.specs.Prelude.{Err, Ok, Result, ⊤}
 use Rattle.isa.specs.Machine.{Program, first, is_empty, rest}
 use Rattle.pipeline.specs.Retire.{retire}
-use Rattle.pipeline.specs.Tick.{Result, moved, refused, tick, word_in}
+use Rattle.pipeline.specs.Tick.{tick, word_in}
 use Rattle.stages.specs.Loads.{want_load}
 use Rattle.accuracy.proofs.Took.{answer_is, answer_none, took}
 use Rattle.accuracy.specs.Accuracy.{Run, answers, fed, one}
-use Rattle.accuracy.specs.Names.{Given, PipelineCpu}
+use Rattle.accuracy.specs.Names.{Given, PipelineCpu, Refusal}
 
 -- the answer that an accepted tick gives is what the machine makes of the next one left
 pub record Feeds (g : Program) (s : PipelineCpu) (t : Given) (left left' : List ℕ) : Type 0 where
@@ -17,23 +18,23 @@ pub record Feeds (g : Program) (s : PipelineCpu) (t : Given) (left left' : List 
       → (is_empty left ≡ false) × (g.take (retire s).stages.ex_mem.mem_size (first left) ≡ word_in t.answer)
   pub next : left' ≡ cond (want_load s.stages) (rest left) left
 
-unfoldable pub FeedsBy : Program → Result → PipelineCpu → Given → List ℕ → List ℕ → Type 0
-FeedsBy g (refused c) s t left left' = left ≡ left'
-FeedsBy g (moved x) s t left left' = Feeds g s t left left'
+unfoldable pub FeedsBy : Program → Result PipelineCpu Refusal → PipelineCpu → Given → List ℕ → List ℕ → Type 0
+FeedsBy g (Err c) s t left left' = left ≡ left'
+FeedsBy g (Ok x) s t left left' = Feeds g s t left left'
 
 -- a list of ticks that feeds the machine the answers `left`
 unfoldable pub Fed : Program → Run → List ℕ → List Given → Type 0
-Fed g r left [] = Unit {0}
+Fed g r left [] = ⊤
 Fed g r left (t ∷ ts) =
     (left' : List ℕ) × FeedsBy g (tick r.state t) r.state t left left' × Fed g (one r t) left' ts
 
 -- a list's ticks feed the machine that takes its answers whole
-pub feeds_whole : (g : Program) (s : PipelineCpu) (t : Given) (o : Result) (left left' : List ℕ)
+pub feeds_whole : (g : Program) (s : PipelineCpu) (t : Given) (o : Result PipelineCpu Refusal) (left left' : List ℕ)
     → ((w v : ℕ) → g.take w v ≡ v)
     → tick s t ≡ o → left ≡ fed o t ++ left' → FeedsBy g o s t left left'
 unfolding FeedsBy fed is_empty first rest
-feeds_whole g s t (refused c) left left' h e q = q
-feeds_whole g s t (moved x) left left' h e q =
+feeds_whole g s t (Err c) left left' h e q = q
+feeds_whole g s t (Ok x) left left' h e q =
     let k = took s t x e in
     let by : (b : Bool) → want_load s.stages ≡ b → left' ≡ cond b (rest left) left =
     λ b. elim b as (λ b. want_load s.stages ≡ b → left' ≡ cond b (rest left) left) [

@@ -1,81 +1,75 @@
 -- Facts of instructions. Only this file goes by cases on the instruction, in two tables: `odd`, what no instruction
 -- does, as one test, and `settle`, that a prediction not gone against is the way taken. Assumes nothing.
-use Prim.Native.Nat.{◌*◌, ◌+◌, ◌-◌, ◌<◌, ◌≤◌, ℕ}
+use Prim.Native.Nat.{◌*◌, ◌+◌, ◌<◌, ◌≤◌, ℕ}
 use borrow.Author.Tests.{eqb-true, lt-ltb, ltb-true}
 use lib.Dec.{eqb, ltb}
 use mathlib.Core.Bool.{Bool, ◌&&◌, ◌||◌, cond, false, false≢true, not, true}
 use mathlib.Core.Path.{◌∙◌, ◌≡◌, refl, subst, sym}
 use native.Mathlib.Omega.{arith}
+use Rattle.std.specs.Prelude.{None, Option, Some, is_some, unwrap_or}
 use Rattle.isa.proofs.Bools.{and_3, and_r, nor, or_l, or_r, split, un_not}
 use Rattle.isa.specs.Effect.{branches, effect_n, effect_of, effect_s, fall, gives, goes_by, goes_on, identifies}
-use Rattle.isa.specs.Effect.{inquires}
-use Rattle.isa.specs.Effect.{jumps, links, marked, no_access, no_marks, no_result, nothing, privileged, raises, reaches}
-use Rattle.isa.specs.Effect.{resumes, sets, stops, written}
-use Rattle.isa.specs.Operands.{bare, binary, branching, div_latency, gpr, loading, mul_latency, ok_dest, ok_operands}
-use Rattle.isa.specs.Operands.{operands_n, operands_of, operands_s, plain, reads, storing, unary, writes}
-use Rattle.isa.specs.Redirects.{is_exception, is_to, mode_or, new_mode_or, target_or}
-use Rattle.isa.specs.Registers.{is_named}
-use Rattle.isa.specs.Waits.{is_div, is_mul, is_negative, predict, predict_by, slow_of, waits}
+use Rattle.isa.specs.Effect.{inquires, jumps, links, marked, no_access, no_marks, no_result, nothing, privileged}
+use Rattle.isa.specs.Effect.{raises, reaches, resumes, sets, stops, written}
+use Rattle.isa.specs.Machine.{dest_of}
+use Rattle.isa.specs.Operands.{bare, binary, branching, gpr, loading, ok_dest, ok_operands, operands_n, operands_of}
+use Rattle.isa.specs.Operands.{operands_s, plain, reads, storing, unary, writes}
+use Rattle.isa.specs.Redirects.{mode_or, target_or}
+use Rattle.isa.specs.Waits.{back_to, is_div, is_mul, is_negative, predict, predict_by, slow_of, wait_of, waits}
 use Rattle.latch.specs.Bounds.{bad_width}
 use Rattle.latch.specs.Execute.{mispredict}
 use Rattle.word.specs.Words.{bit, offset32, word_of}
+use Rattle.accuracy.specs.Accuracy.{same_mode}
 use Rattle.accuracy.specs.Names.{Add, Addi, And, Beq, Bne, Cpuid, DecNormal, DecShort, Decoded, Div, Divu, Effect}
-use Rattle.accuracy.specs.Names.{Halt, Instruction, Iret, Jal, Jalr, Jalrs, Jals, Jmp, Jmps, Jr, Jrs, Keep, Ld}
-use Rattle.accuracy.specs.Names.{Ldb, Ldh, Ldih, Ldil, Mfsr, Mod, Mode, Mtsr, Mul, Mulh, NewMode, Next, Nop}
-use Rattle.accuracy.specs.Names.{Normal, Operands, Or, Redirect, Short, ShortInstruction, Sla, Sll, Slt, Sltu}
-use Rattle.accuracy.specs.Names.{Sra, Srl, St, Stb, Sth, Sub, Syscall, To, ToMode, Unknown, Xor, ShortAdd, ShortAddi}
-use Rattle.accuracy.specs.Names.{ShortBnz, ShortBz, ShortJal, ShortJr, ShortLd, ShortLdi, ShortMov, ShortRet, ShortSt}
-use Rattle.accuracy.specs.Names.{ShortUnknown}
+use Rattle.accuracy.specs.Names.{Halt, Instruction, Iret, Jal, Jalr, Jalrs, Jals, Jmp, Jmps, Jr, Jrs, Ld, Ldb, Ldh}
+use Rattle.accuracy.specs.Names.{Ldih, Ldil, Mfsr, Mod, Mode, Mtsr, Mul, Mulh, Nop, Normal, Operands, Or, Place}
+use Rattle.accuracy.specs.Names.{Short, ShortInstruction, Sla, Sll, Slt, Sltu, Sra, Srl, St, Stb, Sth, Sub, Syscall}
+use Rattle.accuracy.specs.Names.{Unknown, Xor, ShortAdd, ShortAddi, ShortBnz, ShortBz, ShortJal, ShortJr, ShortLd}
+use Rattle.accuracy.specs.Names.{ShortLdi, ShortMov, ShortRet, ShortSt, ShortUnknown}
 
-pub go_cases : {C : Type 0} (g : Redirect) → (g ≡ Next → C) → ((p : ℕ) (m : Mode) → g ≡ To p m → C) → C
-go_cases Next h k = h refl
-go_cases (To p m) h k = k p m refl
+pub go_cases : {C : Type 0} (g : Option Place) → (g ≡ None → C) → ((t : Place) → g ≡ Some t → C) → C
+go_cases None h k = h refl
+go_cases (Some t) h k = k t refl
 
 -- what no instruction does, as tests of the instruction's operands o and effect e, of its guess and of its waits
-unfoldable pub odd_load : Bool → Bool → Operands → Effect → Redirect → Bool
+unfoldable pub odd_load : Bool → Bool → Operands → Effect → Option Place → Bool
 odd_load u v o e g = o.is_load &&
     ((u || v) ||
-    ((is_to e.redirect || is_to g) ||
+    ((is_some e.redirect || is_some g) ||
     ((o.is_store || e.marks.cpuid) ||
-    ((is_exception e.marks.exception || eqb e.access.mem_size 0) || not e.alu.writes))))
+    ((is_some e.marks.exception || eqb e.access.mem_size 0) || not e.alu.writes))))
 
 unfoldable pub odd_store : Operands → Effect → Bool
-odd_store o e = (e.alu.always_writes && not (e.alu.writes && is_named o.dest)) || o.is_store &&
-    ((e.alu.writes && is_named o.dest) || (is_exception e.marks.exception || eqb e.access.mem_size 0))
+odd_store o e = (e.alu.always_writes && not (e.alu.writes && is_some o.dest)) || o.is_store &&
+    ((e.alu.writes && is_some o.dest) || (is_some e.marks.exception || eqb e.access.mem_size 0))
 
-unfoldable pub odd_wait : Bool → Bool → Operands → Effect → Redirect → Bool
-odd_wait u v o e g = ((u || v) && (is_to e.redirect || is_to g)) ||
+unfoldable pub odd_wait : Bool → Bool → Operands → Effect → Option Place → Bool
+odd_wait u v o e g = ((u || v) && (is_some e.redirect || is_some g)) ||
     ((u && v) || (not (ltb 1 o.n_srcs) && not (eqb o.src_b 0)))
 
-unfoldable pub not_mode : Mode → Mode → Bool
-not_mode Normal Normal = false
-not_mode Normal Short = true
-not_mode Short Normal = true
-not_mode Short Short = false
-
 -- a change of mode, not done by an unguessed jump to that mode
-unfoldable pub odd_swap : NewMode → Redirect → Redirect → Bool
-odd_swap Keep g h = false
-odd_swap (ToMode n) (To p m) h = true
-odd_swap (ToMode n) Next Next = true
-odd_swap (ToMode n) Next (To p m) = not_mode n m
+unfoldable pub odd_swap : Option Mode → Option Place → Option Place → Bool
+odd_swap None g h = false
+odd_swap (Some n) (Some t) h = true
+odd_swap (Some n) None None = true
+odd_swap (Some n) None (Some t) = not (same_mode n t.mode)
 
 -- a redirect that keeps the mode, to another mode than the instruction's
-unfoldable pub odd_mode : Mode → NewMode → Redirect → Bool
-odd_mode k Keep Next = false
-odd_mode k Keep (To p m) = not_mode k m
-odd_mode k (ToMode n) h = false
+unfoldable pub odd_mode : Mode → Option Mode → Option Place → Bool
+odd_mode k None None = false
+odd_mode k None (Some t) = not (same_mode k t.mode)
+odd_mode k (Some n) h = false
 
 -- a width that is none, more than two sources, or none but a first source other than R0
 unfoldable pub odd_bounds : Operands → Effect → Bool
 odd_bounds o e = bad_width e.access.mem_size ||
     (ltb 2 o.n_srcs || (not (ltb 0 o.n_srcs) && not (eqb o.src_a 0)))
 
--- a latency that is not a multiply's or divide's, by the instructions that these are
+-- a wait that is not a multiply's or divide's, by the instructions that these are
 unfoldable pub odd_latency : Bool → Bool → Operands → Bool
-odd_latency u v o = not (eqb o.latency (mul_latency * bit u + div_latency * bit v))
+odd_latency u v o = not (eqb (wait_of o.latency) (2 * bit u + 15 * bit v))
 
-unfoldable pub odd : Mode → Bool → Bool → Operands → Effect → Redirect → Bool
+unfoldable pub odd : Mode → Bool → Bool → Operands → Effect → Option Place → Bool
 odd k u v o e g =
     odd_load u v o e g
     || (odd_store o e
@@ -91,12 +85,10 @@ not_odd_n : (u : Bool) (i : Instruction) (p n : ℕ) (m : Mode) (x y : ℕ)
     → odd Normal (is_mul (DecNormal i)) (is_div (DecNormal i)) (operands_n i) (effect_n u i n x y)
     (predict (DecNormal i) p m)
     ≡ false
-unfolding odd odd_load odd_store odd_wait odd_swap odd_latency odd_mode odd_bounds bad_width not_mode operands_of operands_n
-    effect_n is_mul is_div slow_of bit
-    is_to
-    is_named predict predict_by is_exception bare plain writes unary binary reads loading storing branching
-    nothing written no_result no_access no_marks goes_on goes_by marked stops resumes identifies
-    gives reaches branches jumps links raises sets inquires privileged
+unfolding odd odd_load odd_store odd_wait odd_swap odd_latency odd_mode odd_bounds wait_of bad_width same_mode
+    operands_of operands_n effect_n is_mul is_div slow_of bit predict predict_by back_to bare plain writes unary
+    binary reads loading storing branching nothing written no_result no_access no_marks goes_on goes_by marked stops
+    resumes identifies gives reaches branches jumps links raises sets inquires privileged
 not_odd_n u Nop p n m x y = refl
 not_odd_n u (Ld rd base offset) p n m x y = refl
 not_odd_n u (St rd base offset) p n m x y = refl
@@ -149,12 +141,10 @@ not_odd_s : (i : ShortInstruction) (p n : ℕ) (m : Mode) (x y : ℕ)
     → odd Short (is_mul (DecShort i)) (is_div (DecShort i)) (operands_s i) (effect_s i n x y) (predict (DecShort i) p m)
     ≡
     false
-unfolding odd odd_load odd_store odd_wait odd_swap odd_latency odd_mode odd_bounds bad_width not_mode operands_of operands_s
-    effect_s is_mul is_div bit
-    is_to
-    is_named predict predict_by is_exception bare plain writes unary binary reads loading storing branching
-    nothing written no_result no_access no_marks goes_on goes_by marked stops resumes identifies
-    gives reaches branches jumps links raises sets inquires privileged
+unfolding odd odd_load odd_store odd_wait odd_swap odd_latency odd_mode odd_bounds wait_of bad_width same_mode
+    operands_of operands_s effect_s is_mul is_div bit predict predict_by back_to bare plain writes unary binary reads
+    loading storing branching nothing written no_result no_access no_marks goes_on goes_by marked stops resumes
+    identifies gives reaches branches jumps links raises sets inquires privileged
 not_odd_s (ShortMov rd rs1) p n m x y = refl
 not_odd_s (ShortAdd rd rs1 rs2) p n m x y = refl
 not_odd_s (ShortAddi rd imm) p n m x y = refl
@@ -227,30 +217,30 @@ short_ok ShortRet = refl
 short_ok (ShortUnknown h) = refl
 
 -- a guess not gone against is the way taken
-settle_on : (h : Redirect) (f : ℕ) (m : Mode) → mispredict false h f m ≡ Next → (target_or h f ≡ f) ×
+settle_on : (h : Option Place) (f : ℕ) (m : Mode) → mispredict false h f m ≡ None → (target_or h f ≡ f) ×
     (mode_or h m ≡ m)
 unfolding mispredict target_or mode_or
-settle_on Next f m e = (refl, refl)
-settle_on (To p n) f m e = (cc, cc)
+settle_on None f m e = (refl, refl)
+settle_on (Some t) f m e = (cc, cc)
 
-settle_if : (n b : Bool) (q f : ℕ) (m : Mode) → mispredict (is_to (cond n (To q m) Next)) (cond b (To q m) Next) f m
-    ≡ Next
-    → (target_or (cond b (To q m) Next) f ≡ target_or (cond n (To q m) Next) f) ×
-    (mode_or (cond b (To q m) Next) m ≡ mode_or (cond n (To q m) Next) m)
-unfolding mispredict target_or mode_or is_to
-settle_if true true q f m e = (refl, refl)
-settle_if true false q f m e = (cc, cc)
-settle_if false true q f m e = (cc, cc)
-settle_if false false q f m e = (refl, refl)
+settle_if : (n b : Bool) (t : Place) (f : ℕ) (m : Mode)
+    → mispredict (is_some (cond n (Some t) None)) (cond b (Some t) None) f m ≡ None
+    → (target_or (cond b (Some t) None) f ≡ target_or (cond n (Some t) None) f) ×
+    (mode_or (cond b (Some t) None) m ≡ mode_or (cond n (Some t) None) m)
+unfolding mispredict target_or mode_or
+settle_if true true t f m e = (refl, refl)
+settle_if true false t f m e = (cc, cc)
+settle_if false true t f m e = (cc, cc)
+settle_if false false t f m e = (refl, refl)
 
 settle_n : (u : Bool) (i : Instruction) (p x y f : ℕ)
-    → mispredict (is_to (predict (DecNormal i) p Normal)) (effect_n u i (fall p Normal) x y).redirect f Normal ≡
-    Next
+    → mispredict (is_some (predict (DecNormal i) p Normal)) (effect_n u i (fall p Normal) x y).redirect f Normal ≡
+    None
     → (target_or (effect_n u i (fall p Normal) x y).redirect f ≡ target_or (predict (DecNormal i) p Normal) f)
     × (mode_or (effect_n u i (fall p Normal) x y).redirect Normal ≡ mode_or (predict (DecNormal i) p Normal) Normal)
-unfolding predict predict_by operands_of operands_n effect_n is_to target_or mode_or offset32 bare plain writes unary binary
-    reads loading storing branching nothing written no_result no_access no_marks goes_on goes_by marked stops
-    resumes identifies gives reaches branches jumps links raises sets inquires privileged
+unfolding predict predict_by back_to operands_of operands_n effect_n target_or mode_or offset32 bare plain writes
+    unary binary reads loading storing branching nothing written no_result no_access no_marks goes_on goes_by marked
+    stops resumes identifies gives reaches branches jumps links raises sets inquires privileged
 settle_n u Nop p x y f e = settle_on _ f Normal e
 settle_n u (Ld rd base offset) p x y f e = settle_on _ f Normal e
 settle_n u (St rd base offset) p x y f e = settle_on _ f Normal e
@@ -259,9 +249,9 @@ settle_n u (Addi rd rs1 imm) p x y f e = settle_on _ f Normal e
 settle_n u (Sub rd rs1 rs2) p x y f e = settle_on _ f Normal e
 settle_n u (Slt rd rs1 rs2) p x y f e = settle_on _ f Normal e
 settle_n u (Beq rs1 rs2 offset) p x y f e = settle_if (is_negative (word_of offset)) (eqb x y)
-    (offset32 (fall p Normal) offset) f Normal e
+    (record { pc = offset32 (fall p Normal) offset; mode = Normal }) f Normal e
 settle_n u (Bne rs1 rs2 offset) p x y f e = settle_if (is_negative (word_of offset)) (not (eqb x y))
-    (offset32 (fall p Normal) offset) f Normal e
+    (record { pc = offset32 (fall p Normal) offset; mode = Normal }) f Normal e
 settle_n u (Jmp offset) p x y f e = settle_on _ f Normal e
 settle_n u (Jal offset) p x y f e = settle_on _ f Normal e
 settle_n u (Jr rd) p x y f e = settle_on _ f Normal e
@@ -298,21 +288,21 @@ settle_n u (Mfsr rd sr) p x y f e = settle_on _ f Normal e
 settle_n u (Mtsr rs sr) p x y f e = settle_on _ f Normal e
 
 settle_s : (i : ShortInstruction) (p x y f : ℕ)
-    → mispredict (is_to (predict (DecShort i) p Short)) (effect_s i (fall p Short) x y).redirect f Short ≡ Next
+    → mispredict (is_some (predict (DecShort i) p Short)) (effect_s i (fall p Short) x y).redirect f Short ≡ None
     → (target_or (effect_s i (fall p Short) x y).redirect f ≡ target_or (predict (DecShort i) p Short) f)
     × (mode_or (effect_s i (fall p Short) x y).redirect Short ≡ mode_or (predict (DecShort i) p Short) Short)
-unfolding predict predict_by operands_of operands_s effect_s is_to target_or mode_or offset32 bare plain writes unary binary
-    reads loading storing branching nothing written no_result no_access no_marks goes_on goes_by marked stops
-    resumes identifies gives reaches branches jumps links raises sets inquires privileged
+unfolding predict predict_by back_to operands_of operands_s effect_s target_or mode_or offset32 bare plain writes
+    unary binary reads loading storing branching nothing written no_result no_access no_marks goes_on goes_by marked
+    stops resumes identifies gives reaches branches jumps links raises sets inquires privileged
 settle_s (ShortMov rd rs1) p x y f e = settle_on _ f Short e
 settle_s (ShortAdd rd rs1 rs2) p x y f e = settle_on _ f Short e
 settle_s (ShortAddi rd imm) p x y f e = settle_on _ f Short e
 settle_s (ShortLd rd rs1) p x y f e = settle_on _ f Short e
 settle_s (ShortSt rd rs1) p x y f e = settle_on _ f Short e
 settle_s (ShortBz rd offset) p x y f e = settle_if (is_negative (word_of offset)) (eqb x 0)
-    (offset32 (fall p Short) offset) f Short e
+    (record { pc = offset32 (fall p Short) offset; mode = Short }) f Short e
 settle_s (ShortBnz rd offset) p x y f e = settle_if (is_negative (word_of offset)) (not (eqb x 0))
-    (offset32 (fall p Short) offset) f Short e
+    (record { pc = offset32 (fall p Short) offset; mode = Short }) f Short e
 settle_s (ShortJr rd) p x y f e = settle_on _ f Short e
 settle_s (ShortJal offset) p x y f e = settle_on _ f Short e
 settle_s (ShortLdi rd imm) p x y f e = settle_on _ f Short e
@@ -320,7 +310,7 @@ settle_s ShortRet p x y f e = settle_on _ f Short e
 settle_s (ShortUnknown half) p x y f e = settle_on _ f Short e
 
 pub settle : (u : Bool) (i : Decoded) (p : ℕ) (m : Mode) (x y f : ℕ) → kind i ≡ m → mispredict
-    (is_to (predict i p m)) (effect_of u i p x y).redirect f m ≡ Next
+    (is_some (predict i p m)) (effect_of u i p x y).redirect f m ≡ None
     → (target_or (effect_of u i p x y).redirect f ≡ target_or (predict i p m) f) ×
     (mode_or (effect_of u i p x y).redirect m ≡ mode_or (predict i p m) m)
 unfolding kind effect_of
@@ -349,6 +339,11 @@ ok_dest_lem (DecNormal i) Normal e = and_3 (ltb (operands_n i).src_a 32) (ltb (o
 ok_dest_lem (DecNormal i) Short e = cc
 ok_dest_lem (DecShort i) m e = and_3 (ltb (operands_s i).src_a 32) (ltb (operands_s i).src_b 32) _ (short_ok i)
 
+-- the destination of an effect is in bounds where the instruction's is
+pub dest_in : (e : Effect) (d : Option ℕ) → ok_dest d ≡ true → ok_dest (dest_of e d) ≡ true
+unfolding dest_of ok_dest
+dest_in e d h = split e.alu.writes (λ z. rw z h) (λ z. rw z)
+
 -- the width of an effect and the number of sources are in bounds
 pub width_in : (u : Bool) (i : Decoded) (p x y : ℕ) → bad_width (effect_of u i p x y).access.mem_size ≡ false
 unfolding odd_bounds
@@ -368,44 +363,36 @@ no_source i e = eqb-true (operands_of i).src_a 0
     (un_not _ (and_r (not (ltb 0 (operands_of i).n_srcs)) _ (or_r (ltb 2 (operands_of i).n_srcs) _
     (sources_rest i)) (rw e)))
 
-pub on_on : (g h : Redirect) (p : ℕ) (m : Mode) → (is_to h || is_to g) ≡ false → mispredict (is_to g) h p m ≡ Next
-unfolding is_to mispredict
-on_on Next Next p m e = refl
-on_on Next (To q n) p m e = cc
-on_on (To q n) Next p m e = cc
-on_on (To q n) (To r k) p m e = cc
+pub on_on : (g h : Option Place) (p : ℕ) (m : Mode) → (is_some h || is_some g) ≡ false
+    → mispredict (is_some g) h p m ≡ None
+unfolding mispredict
+on_on None None p m e = refl
+on_on None (Some t) p m e = cc
+on_on (Some t) None p m e = cc
+on_on (Some t) (Some r) p m e = cc
 
 slow_rest : (i : Decoded) →
     ((is_mul i && is_div i) || (not (ltb 1 (operands_of i).n_srcs) && not (eqb (operands_of i).src_b 0))) ≡
     false
 unfolding odd_wait
-slow_rest i = or_r ((is_mul i || is_div i) && (is_to (effect_of false i 0 0 0).redirect || is_to
+slow_rest i = or_r ((is_mul i || is_div i) && (is_some (effect_of false i 0 0 0).redirect || is_some
     (predict i 0 Normal))) _ (even false i 0 Normal 0 0).wait
 
 pub slow_one : (i : Decoded) → (is_mul i && is_div i) ≡ false
 slow_one i = or_l (is_mul i && is_div i) _ (slow_rest i)
 
 -- the waits: 2 for a multiply, 15 for a divide
-waits_by : (l : ℕ) (u v : Bool) → not (eqb l (mul_latency * bit u + div_latency * bit v)) ≡ false → (u && v) ≡ false
-    → l - 1 ≡ 2 * bit u + 15 * bit v
-unfolding bit
-waits_by l true true h n = cc
-waits_by l true false h n = rw (eqb-true l 3 (un_not _ h))
-waits_by l false true h n = rw (eqb-true l 16 (un_not _ h))
-waits_by l false false h n = rw (eqb-true l 0 (un_not _ h))
-
 pub waits_is : (i : Decoded) → waits i ≡ 2 * bit (is_mul i) + 15 * bit (is_div i)
 unfolding waits odd_latency
-waits_is i =
-    waits_by (operands_of i).latency (is_mul i) (is_div i) (even false i 0 Normal 0 0).latency (slow_one i)
+waits_is i = eqb-true _ _ (un_not _ (even false i 0 Normal 0 0).latency)
 
 -- what a load does and does not
 pub record Plain (i : Decoded) (p : ℕ) (m : Mode) (e : Effect) : Type 0 where
-  pub straight : (q : ℕ) → mispredict (is_to (predict i p m)) e.redirect q m ≡ Next
+  pub straight : (q : ℕ) → mispredict (is_some (predict i p m)) e.redirect q m ≡ None
   pub quick : waits i ≡ 0
   pub is_store : (operands_of i).is_store ≡ false
   pub cpuid : e.marks.cpuid ≡ false
-  pub exception : is_exception e.marks.exception ≡ false
+  pub exception : is_some e.marks.exception ≡ false
   pub mem_size : eqb e.access.mem_size 0 ≡ false
   pub writes : e.alu.writes ≡ true
 
@@ -418,26 +405,26 @@ load_plain i p m e v z =
     let r1 = and_r o.is_load _ v.load z in
     let w = or_l (is_mul i || is_div i) _ r1 in
     let r2 = or_r (is_mul i || is_div i) _ r1 in
-    let t = or_l (is_to e.redirect || is_to g) _ r2 in
-    let r3 = or_r (is_to e.redirect || is_to g) _ r2 in
+    let t = or_l (is_some e.redirect || is_some g) _ r2 in
+    let r3 = or_r (is_some e.redirect || is_some g) _ r2 in
     let sc = or_l (o.is_store || e.marks.cpuid) _ r3 in
     let r4 = or_r (o.is_store || e.marks.cpuid) _ r3 in
-    let tw = or_l (is_exception e.marks.exception || eqb e.access.mem_size 0) _ r4 in
-    let r5 = or_r (is_exception e.marks.exception || eqb e.access.mem_size 0) _ r4 in
+    let tw = or_l (is_some e.marks.exception || eqb e.access.mem_size 0) _ r4 in
+    let r5 = or_r (is_some e.marks.exception || eqb e.access.mem_size 0) _ r4 in
     record {
       straight = λ q. on_on g _ q m t;
       quick = waits_is i ∙ rw (or_l (is_mul i) (is_div i) w, or_r (is_mul i) (is_div i) w);
       is_store = or_l o.is_store _ sc;
       cpuid = or_r o.is_store _ sc;
-      exception = or_l (is_exception e.marks.exception) _ tw;
-      mem_size = or_r (is_exception e.marks.exception) _ tw;
+      exception = or_l (is_some e.marks.exception) _ tw;
+      mem_size = or_r (is_some e.marks.exception) _ tw;
       writes = un_not e.alu.writes r5;
     }
 
 -- what a store does not
 pub record Stores (i : Decoded) (e : Effect) : Type 0 where
-  pub dest : (e.alu.writes && is_named (operands_of i).dest) ≡ false
-  pub exception : is_exception e.marks.exception ≡ false
+  pub dest : (e.alu.writes && is_some (operands_of i).dest) ≡ false
+  pub exception : is_some e.marks.exception ≡ false
   pub mem_size : eqb e.access.mem_size 0 ≡ false
 
 pub store_plain : (i : Decoded) (p : ℕ) (m : Mode) (e : Effect) → Even i p m e → (operands_of i).is_store ≡ true
@@ -445,13 +432,13 @@ pub store_plain : (i : Decoded) (p : ℕ) (m : Mode) (e : Effect) → Even i p m
 unfolding odd_store
 store_plain i p m e v z =
     let o = operands_of i in
-    let r1 = and_r o.is_store _ (or_r (e.alu.always_writes && not (e.alu.writes && is_named o.dest)) _
+    let r1 = and_r o.is_store _ (or_r (e.alu.always_writes && not (e.alu.writes && is_some o.dest)) _
     v.store) z in
-    let r2 = or_r (e.alu.writes && is_named o.dest) _ r1 in
+    let r2 = or_r (e.alu.writes && is_some o.dest) _ r1 in
     record {
-      dest = or_l (e.alu.writes && is_named o.dest) _ r1;
-      exception = or_l (is_exception e.marks.exception) _ r2;
-      mem_size = or_r (is_exception e.marks.exception) _ r2;
+      dest = or_l (e.alu.writes && is_some o.dest) _ r1;
+      exception = or_l (is_some e.marks.exception) _ r2;
+      mem_size = or_r (is_some e.marks.exception) _ r2;
     }
 
 -- what is written back in any case has a destination
@@ -462,13 +449,13 @@ force_by true false d e = cc
 force_by false w d e = refl
 
 pub force_none : (i : Decoded) (p : ℕ) (m : Mode) (e : Effect) → Even i p m e
-    → (e.alu.always_writes || (e.alu.writes && is_named (operands_of i).dest))
-    ≡ (e.alu.writes && is_named (operands_of i).dest)
+    → (e.alu.always_writes || (e.alu.writes && is_some (operands_of i).dest))
+    ≡ (e.alu.writes && is_some (operands_of i).dest)
 unfolding odd_store
 force_none i p m e v =
     let o = operands_of i in
-    force_by e.alu.always_writes e.alu.writes (is_named o.dest)
-    (or_l (e.alu.always_writes && not (e.alu.writes && is_named o.dest)) _ v.store)
+    force_by e.alu.always_writes e.alu.writes (is_some o.dest)
+    (or_l (e.alu.always_writes && not (e.alu.writes && is_some o.dest)) _ v.store)
 
 -- multiplies and divides
 bits : (u v : Bool) → 0 < 2 * bit u + 15 * bit v → (u || v) ≡ true
@@ -478,7 +465,7 @@ bits false true h = refl
 bits false false h = absurd (omega arith)
 
 pub slow_straight : (i : Decoded) (p : ℕ) (m : Mode) (e : Effect) → Even i p m e → (q : ℕ) → 0 < waits i
-    → mispredict (is_to (predict i p m)) e.redirect q m ≡ Next
+    → mispredict (is_some (predict i p m)) e.redirect q m ≡ None
 unfolding odd_wait
 slow_straight i p m e v q h =
     on_on (predict i p m) _ q m
@@ -511,58 +498,59 @@ few i e = eqb-true (operands_of i).src_b 0
     (un_not _ (and_r (not (ltb 1 (operands_of i).n_srcs)) _ (or_r (is_mul i && is_div i) _ (slow_rest i)) (rw e)))
 
 -- a change of mode: the mode that a jump, never guessed, goes to
-swap_by : (n : NewMode) (g h : Redirect) (f : ℕ) (m : Mode) → odd_swap n g h ≡ false → is_to
-    (mispredict (is_to g) h f m) ≡ false → (k : Mode) → new_mode_or n k ≡ k
-unfolding odd_swap is_to mispredict new_mode_or
-swap_by Keep g h f m o e k = refl
-swap_by (ToMode n) (To p m') h f m o e k = cc
-swap_by (ToMode n) Next Next f m o e k = cc
-swap_by (ToMode n) Next (To p m') f m o e k = cc
+swap_by : (n : Option Mode) (g h : Option Place) (f : ℕ) (m : Mode) → odd_swap n g h ≡ false
+    → is_some (mispredict (is_some g) h f m) ≡ false → (k : Mode) → unwrap_or n k ≡ k
+unfolding odd_swap mispredict
+swap_by None g h f m o e k = refl
+swap_by (Some n) (Some t) h f m o e k = cc
+swap_by (Some n) None None f m o e k = cc
+swap_by (Some n) None (Some t) f m o e k = cc
 
-mode_eq : (n m : Mode) → not_mode n m ≡ false → n ≡ m
-unfolding not_mode
+pub mode_eq : (n m : Mode) → same_mode n m ≡ true → n ≡ m
+unfolding same_mode
 mode_eq Normal Normal e = refl
 mode_eq Normal Short e = cc
 mode_eq Short Normal e = cc
 mode_eq Short Short e = refl
 
-swap_to : (n : NewMode) (g h : Redirect) (m : Mode) → odd_swap n g h ≡ false → new_mode_or n (mode_or h m) ≡ mode_or h m
-unfolding odd_swap new_mode_or mode_or
-swap_to Keep g h m o = refl
-swap_to (ToMode n) (To p m') h m o = cc
-swap_to (ToMode n) Next Next m o = cc
-swap_to (ToMode n) Next (To p m') m o = mode_eq n m' o
+swap_to : (n : Option Mode) (g h : Option Place) (m : Mode) → odd_swap n g h ≡ false
+    → unwrap_or n (mode_or h m) ≡ mode_or h m
+unfolding odd_swap mode_or
+swap_to None g h m o = refl
+swap_to (Some n) (Some t) h m o = cc
+swap_to (Some n) None None m o = cc
+swap_to (Some n) None (Some t) m o = mode_eq n t.mode (un_not _ o)
 
 pub swap_kept : (i : Decoded) (p : ℕ) (m : Mode) (e : Effect) → Even i p m e → (f : ℕ)
-    → is_to (mispredict (is_to (predict i p m)) e.redirect f m) ≡ false
-    → (k : Mode) → new_mode_or e.branch_new_mode k ≡ k
+    → is_some (mispredict (is_some (predict i p m)) e.redirect f m) ≡ false
+    → (k : Mode) → unwrap_or e.branch_new_mode k ≡ k
 swap_kept i p m e v f h k = swap_by _ (predict i p m) e.redirect f m v.swap h k
 
 pub swap_new : (i : Decoded) (p : ℕ) (m : Mode) (e : Effect) → Even i p m e
-    → new_mode_or e.branch_new_mode (mode_or e.redirect m) ≡ mode_or e.redirect m
+    → unwrap_or e.branch_new_mode (mode_or e.redirect m) ≡ mode_or e.redirect m
 swap_new i p m e v = swap_to _ (predict i p m) e.redirect m v.swap
 
 -- the retired mode: the mode that an instruction goes on in
-stays_by : (n : NewMode) (g h : Redirect) (m : Mode) → odd_swap n g h ≡ false → odd_mode m n h ≡ false → new_mode_or n m
-    ≡ mode_or h m
-unfolding odd_swap odd_mode new_mode_or mode_or
-stays_by Keep g Next m o q = refl
-stays_by Keep g (To p k) m o q = mode_eq m k q
-stays_by (ToMode n) (To p k) h m o q = cc
-stays_by (ToMode n) Next Next m o q = cc
-stays_by (ToMode n) Next (To p k) m o q = mode_eq n k o
+stays_by : (n : Option Mode) (g h : Option Place) (m : Mode) → odd_swap n g h ≡ false → odd_mode m n h ≡ false
+    → unwrap_or n m ≡ mode_or h m
+unfolding odd_swap odd_mode mode_or
+stays_by None g None m o q = refl
+stays_by None g (Some t) m o q = mode_eq m t.mode (un_not _ q)
+stays_by (Some n) (Some t) h m o q = cc
+stays_by (Some n) None None m o q = cc
+stays_by (Some n) None (Some t) m o q = mode_eq n t.mode (un_not _ o)
 
 pub mode_stays : (i : Decoded) (p : ℕ) (m : Mode) (e : Effect) → Even i p m e → kind i ≡ m
-    → new_mode_or e.branch_new_mode m ≡ mode_or e.redirect m
+    → unwrap_or e.branch_new_mode m ≡ mode_or e.redirect m
 mode_stays i p m e v k =
     stays_by e.branch_new_mode (predict i p m) e.redirect m v.swap
     (subst (λ (j : Mode). odd_mode j e.branch_new_mode e.redirect ≡ false) k v.mode)
 
 -- a redirect leads where the instruction goes
-pub turned : (g : Bool) (h : Redirect) (f : ℕ) (m : Mode) (q : ℕ) (n : Mode) → mispredict g h f m ≡ To q n →
-    (q ≡ target_or h f) × (n ≡ mode_or h m)
+pub turned : (g : Bool) (h : Option Place) (f : ℕ) (m : Mode) (q : Place) → mispredict g h f m ≡ Some q
+    → (q.pc ≡ target_or h f) × (q.mode ≡ mode_or h m)
 unfolding mispredict target_or mode_or
-turned false Next f m q n e = (cc, cc)
-turned false (To p k) f m q n e = (cc, cc)
-turned true Next f m q n e = (cc, cc)
-turned true (To p k) f m q n e = (cc, cc)
+turned false None f m q e = (cc, cc)
+turned false (Some t) f m q e = (cc, cc)
+turned true None f m q e = (cc, cc)
+turned true (Some t) f m q e = (cc, cc)

@@ -7,19 +7,20 @@ use mathlib.Core.Bool.{Bool, ◌&&◌, ◌||◌, cond, false, false≢true, not,
 use mathlib.Core.List.{List, ◌++◌, append-nil}
 use mathlib.Core.Path.{◌∙◌, ◌≡◌, ap, refl, subst, sym}
 use native.Mathlib.Omega.{arith}
-use Rattle.isa.proofs.Bools.{split}
+use Rattle.std.specs.Prelude.{None, Option, Some, is_some, unwrap_or}
+use Rattle.isa.proofs.Bools.{both_l, both_r, split}
 use Rattle.isa.proofs.Machine.{step, walk}
 use Rattle.isa.specs.Effect.{effect_of, fall}
 use Rattle.isa.specs.Inquiries.{fill}
 use Rattle.isa.specs.Machine.{Arch, Machine, Program, dest_of, effect_at, first, instruction_at, is_barred, is_empty}
 use Rattle.isa.specs.Machine.{machine, machine_by, machine_step, open_at, rest, step_by, stops_at, value_at}
 use Rattle.isa.specs.Operands.{ok_dest, operands_of}
-use Rattle.isa.specs.Redirects.{is_exception, is_to, mode_or, target_or}
+use Rattle.isa.specs.Redirects.{mode_or, target_or}
 use Rattle.isa.specs.Registers.{is_dest, is_reg, read_reg, write_cpuid}
 use Rattle.isa.specs.Short.{decoded_of}
 use Rattle.isa.specs.Waits.{is_used, is_used_load, waits}
 use Rattle.latch.specs.Decode.{decode_predicted, id_ex_by, id_ex_of, load_use}
-use Rattle.latch.specs.Execute.{effect_from, effect_in, ex_mem_of, mispredict, operand_b}
+use Rattle.latch.specs.Execute.{effect_from, effect_in, ex_mem_of, mispredict, operand_b, raised_or}
 use Rattle.latch.specs.Forwarding.{cpuid_word, forward_from, from_ex_mem, from_mem_wb}
 use Rattle.latch.specs.Latches.{cleared, empty_ex_mem, empty_id_ex, empty_mem_wb}
 use Rattle.latch.specs.Memory.{dest_after, loads, mem_wb_of, passed_on, requests, stores, value_after, writes_after}
@@ -32,11 +33,11 @@ use Rattle.stages.specs.Execute.{effect_for, executed, executed_by, inquiry_by, 
 use Rattle.stages.specs.Fetch.{fetch_from, fetch_place, fetched, fetches, next_id_ex, place_or, predicted}
 use Rattle.stages.specs.Forwarding.{forwarded}
 use Rattle.stages.specs.Move.{begins_wait, free_move, hazard, is_slow, is_wait, move, move_from, next_ex_mem}
-use Rattle.stages.specs.Move.{proceed_or}
-use Rattle.stages.specs.Move.{waits_on}
+use Rattle.stages.specs.Move.{proceed_or, waits_on}
 use Rattle.stages.specs.Retire.{retire_stages}
 use Rattle.word.specs.Words.{bit}
-use Rattle.accuracy.proofs.Instructions.{few, go_cases, kind, load_quick, ok_dest_lem, ok_kind, ok_in, slow_load}
+use Rattle.accuracy.proofs.Instructions.{dest_in, few, go_cases, kind, load_quick, ok_dest_lem, ok_kind, ok_in}
+use Rattle.accuracy.proofs.Instructions.{slow_load}
 use Rattle.accuracy.proofs.Path.{At, asked_at, commit_at, due, dx_at, eff_of, filled_at, latch_at, ld_at, left_at}
 use Rattle.accuracy.proofs.Path.{load_at, load_facts, load_turn, mem_at, mode_at, mode_kept, mode_new, mw_at}
 use Rattle.accuracy.proofs.Path.{next_guessed, next_turned, open_of, pc_at, settled, slow_turn, swerve_turn, turn_at}
@@ -44,17 +45,22 @@ use Rattle.accuracy.proofs.Path.{way_at, xm_regs_at, xm_at}
 use Rattle.accuracy.proofs.Registers.{fwd_load, fwd_xm, length_cpu, length_put, read_put, zero_cpu, zero_put}
 use Rattle.accuracy.proofs.Registers.{zero_read}
 use Rattle.accuracy.specs.Count.{predict_at}
-use Rattle.accuracy.specs.Names.{Decoded, Dest, Effect, ExMem, IdEx, IfId, Inquiry, MemWb, Mode, Move, Next}
-use Rattle.accuracy.specs.Names.{NoDest, NoInquiry, Of, PipelineCpu, Place, RawInstr, Redirect, Reg, Request}
-use Rattle.accuracy.specs.Names.{Special, Taken, To}
-use Rattle.accuracy.specs.Names.{begin_wait, keep_waiting, load_use_stall, proceed, redirect}
+use Rattle.accuracy.specs.Names.{Decoded, Effect, ExMem, IdEx, IfId, MemWb, Mode, Move, PipelineCpu, Place, RawInstr}
+use Rattle.accuracy.specs.Names.{Request, Taken, begin_wait, keep_waiting, load_use_stall, proceed, redirect}
 
 -- the move by its five values: armed, more than one tick left, a used load, a multiply or divide in ID/EX, the redirect
-unfoldable choose : Bool → Bool → Bool → Bool → Redirect → Move
+unfoldable choose : Bool → Bool → Bool → Bool → Option Place → Move
 choose a l z w g = cond (a && l) keep_waiting (cond (not a && (not z && w)) begin_wait (move_from z g))
 
 unfoldable pub ok_at : Program → Arch → Bool
 ok_at prog w = ok_in (instruction_at prog w) w.mode
+
+-- a place, or where a redirect leads, by its two parts
+parts_or : (g : Option Place) (p : ℕ) (m : Mode)
+    → unwrap_or g (record { pc = p; mode = m }) ≡ record { pc = target_or g p; mode = mode_or g m }
+unfolding target_or mode_or
+parts_or None p m = refl
+parts_or (Some t) p m = refl
 
 module _ (prog : Program) (w₀ : Arch) where
   -- MEM/WB: empty, or instruction k, due next
@@ -133,11 +139,11 @@ module _ (prog : Program) (w₀ : Arch) where
   -- with a redirect at k nothing is close behind it
   due_suc : (n : ℕ) → due prog w₀ (suc n) ≡ due prog w₀ n + 1 + waits (instruction_at prog (walk prog w₀ (suc n)))
       + bit (is_used_load (instruction_at prog (walk prog w₀ n)) (instruction_at prog (walk prog w₀ (suc n)))) + 2 * bit
-      (is_to (turn_at prog (walk prog w₀ n)))
+      (is_some (turn_at prog (walk prog w₀ n)))
   unfolding due
   due_suc n = rw (swerve_turn prog (walk prog w₀ n))
 
-  due_far : (t k : ℕ) → due prog w₀ k ≡ t + 1 → is_to (turn_at prog (walk prog w₀ k)) ≡ true
+  due_far : (t k : ℕ) → due prog w₀ k ≡ t + 1 → is_some (turn_at prog (walk prog w₀ k)) ≡ true
       → t + 4 + waits (instruction_at prog (walk prog w₀ (suc k))) ≤ due prog w₀ (suc k)
   unfolding bit
   due_far t k d z = rw (due_suc k, d, z) (omega arith)
@@ -164,10 +170,10 @@ module _ (prog : Program) (w₀ : Arch) where
       → retired_mode s.stages.mem_wb s.stages.fetch_at.mode ≡ s.stages.fetch_at.mode
   unfolding retired_mode empty_mem_wb
   mode_same s t k n₁ n₂ (gap e) x fr = rw e
-  mode_same s t k n₁ n₂ (full e d o g) (full e2 d2 o2) fr = split (is_to (turn_at prog (walk prog w₀ k)))
+  mode_same s t k n₁ n₂ (full e d o g) (full e2 d2 o2) fr = split (is_some (turn_at prog (walk prog w₀ k)))
       (λ z. let h = due_far t k d z in absurd (omega arith))
       (λ z. rw e (mode_kept prog (walk prog w₀ k) z s.stages.fetch_at.mode))
-  mode_same s t k n₁ n₂ (full e d o g) (gap e2) fr = split (is_to (turn_at prog (walk prog w₀ k)))
+  mode_same s t k n₁ n₂ (full e d o g) (gap e2) fr = split (is_some (turn_at prog (walk prog w₀ k)))
       (λ z. turned_mode s t k e d (due_far t k d z) fr)
       (λ z. rw e (mode_kept prog (walk prog w₀ k) z s.stages.fetch_at.mode))
 
@@ -182,38 +188,24 @@ module _ (prog : Program) (w₀ : Arch) where
     walk_zero zero = nought
     walk_zero (suc n) = zero_put _ _ _ (zero_cpu _ _ _ (walk_zero n))
 
-    and_3 : (a b c : Bool) → (a && (b && c)) ≡ true → c ≡ true
-    and_3 true true c e = e
-    and_3 true false c e = cc
-    and_3 false b c e = cc
-
-    and_4 : (a b c d : Bool) → (a && (b && (c && d))) ≡ true → c ≡ true
-    and_4 true true true d e = refl
-    and_4 true true false d e = cc
-    and_4 true false c d e = cc
-    and_4 false b c d e = cc
-
     dest_ok : (w : Arch) → ok_at prog w ≡ true → ok_dest (operands_of (instruction_at prog w)).dest ≡ true
     unfolding ok_at instruction_at
     dest_ok w o = ok_dest_lem (instruction_at prog w) w.mode o
-
-    end_ok : (e : Effect) (d : Dest) → ok_dest d ≡ true → ok_dest (dest_of e d) ≡ true
-    unfolding dest_of ok_dest
-    end_ok e d o = split e.alu.writes (λ z. rw z o) (λ z. rw z)
 
     kind_ok : (w : Arch) → ok_at prog w ≡ true → kind (instruction_at prog w) ≡ w.mode
     unfolding ok_at instruction_at
     kind_ok w o = ok_kind (instruction_at prog w) w.mode o
 
-    ok_cond : (a b : Bool) (d : Dest) → ok_dest d ≡ true → ok_dest (cond a d (cond b NoDest d)) ≡ true
+    ok_cond : (a b : Bool) (d : Option ℕ) → ok_dest d ≡ true → ok_dest (cond a d (cond b None d)) ≡ true
     unfolding ok_dest
     ok_cond true b d e = e
     ok_cond false true d e = refl
     ok_cond false false d e = e
 
     mw_ok : (w : Arch) → ok_at prog w ≡ true → ok_dest (mw_at prog w).dest ≡ true
-    unfolding mw_at mem_wb_of passed_on dest_after writes_after value_after xm_at ex_mem_of dx_at id_ex_of id_ex_by instruction_at
-    mw_ok w o = ok_cond (loads (xm_at prog w)) (stores (xm_at prog w)) _ (end_ok (eff_of prog w) _ (dest_ok w o))
+    unfolding mw_at mem_wb_of passed_on dest_after writes_after value_after xm_at ex_mem_of dx_at id_ex_of id_ex_by
+        instruction_at
+    mw_ok w o = ok_cond (loads (xm_at prog w)) (stores (xm_at prog w)) _ (dest_in (eff_of prog w) _ (dest_ok w o))
 
     -- retirement
     still_mw : (l : MemWb) (t k n₁ : ℕ) → Mw t l k n₁ → (r : ℕ) → eqb r 0 ≡ false
@@ -259,9 +251,8 @@ module _ (prog : Program) (w₀ : Arch) where
     pub isa_mw : (l : MemWb) (t k n₁ : ℕ) → Mw t l k n₁ → is_faulty l ≡ false → machine prog w₀ k ≡ record
         { arch = walk prog w₀ k; runs = true; done = k }
         → machine prog w₀ n₁ ≡ record { arch = walk prog w₀ n₁; runs = not (halts l); done = n₁ }
-    unfolding halts empty_mem_wb walk machine machine_step step mw_at mem_wb_of passed_on dest_after writes_after value_after xm_at
-        ex_mem_of dx_at id_ex_of id_ex_by effect_at
-        instruction_at is_barred is_faulty eff_of
+    unfolding halts empty_mem_wb walk machine machine_step step mw_at mem_wb_of passed_on dest_after writes_after
+        value_after xm_at ex_mem_of dx_at id_ex_of id_ex_by effect_at instruction_at is_barred is_faulty eff_of
     isa_mw l t k n₁ (gap e) h u = rw e u
     isa_mw l t k n₁ (full e d o g) h u = isa_by (walk prog w₀ k) (instruction_at prog (walk prog w₀ k))
         (machine prog w₀ k) k u refl (rw e at h) g
@@ -300,25 +291,25 @@ module _ (prog : Program) (w₀ : Arch) where
     use_by false true r e z = (cc, cc)
     use_by false false r e z = (refl, e)
 
-    use_a : (d : Dest) (a b : ℕ) → is_used d a b ≡ false → eqb a 0 ≡ false → is_dest d a ≡ false
+    use_a : (d : Option ℕ) (a b : ℕ) → is_used d a b ≡ false → eqb a 0 ≡ false → is_dest d a ≡ false
     unfolding is_used is_dest
-    use_a NoDest a b e z = refl
-    use_a (Reg d) a b e z = split (eqb d 0)
+    use_a None a b e z = refl
+    use_a (Some d) a b e z = split (eqb d 0)
         (λ q. ne_eqb d a (λ u. eqb-false a 0 z (sym u ∙ eqb-true d 0 q)))
         (λ q. (use_by (eqb d 0) (eqb d a) (eqb d b) e q).0)
 
-    use_b : (d : Dest) (a b : ℕ) → is_used d a b ≡ false → eqb b 0 ≡ false → is_dest d b ≡ false
+    use_b : (d : Option ℕ) (a b : ℕ) → is_used d a b ≡ false → eqb b 0 ≡ false → is_dest d b ≡ false
     unfolding is_used is_dest
-    use_b NoDest a b e z = refl
-    use_b (Reg d) a b e z = split (eqb d 0)
+    use_b None a b e z = refl
+    use_b (Some d) a b e z = split (eqb d 0)
         (λ q. ne_eqb d b (λ u. eqb-false b 0 z (sym u ∙ eqb-true d 0 q)))
         (λ q. (use_by (eqb d 0) (eqb d a) (eqb d b) e q).1)
 
     xm_ok : (w : Arch) → ok_at prog w ≡ true → ok_dest (xm_at prog w).dest ≡ true
     unfolding xm_at ex_mem_of dx_at id_ex_of id_ex_by instruction_at
-    xm_ok w o = end_ok (eff_of prog w) _ (dest_ok w o)
+    xm_ok w o = dest_in (eff_of prog w) _ (dest_ok w o)
 
-    hits_end : (e : Effect) (d : Dest) (r : ℕ) → is_dest d r ≡ false → is_dest (dest_of e d) r ≡ false
+    hits_end : (e : Effect) (d : Option ℕ) (r : ℕ) → is_dest d r ≡ false → is_dest (dest_of e d) r ≡ false
     unfolding dest_of is_dest
     hits_end e d r h = split e.alu.writes (λ z. rw z h) (λ z. rw z)
 
@@ -339,7 +330,7 @@ module _ (prog : Program) (w₀ : Arch) where
         let c = load_cpu w e in
         fwd_load (xm_at prog w) prog.features (read_reg w.reg r) r (load_at prog w ∙ e) (xm_cpu w ∙ c)
         ∙ sym (read_put (dest_of (eff_of prog w) (operands_of (instruction_at prog w)).dest)
-        (value_at prog (instruction_at prog w) w) _ r (end_ok (eff_of prog w) _ (dest_ok w o))
+        (value_at prog (instruction_at prog w) w) _ r (dest_in (eff_of prog w) _ (dest_ok w o))
         (length_cpu (eff_of prog w).marks.cpuid prog.features w.reg ∙ n) z ∙ rw
         (hits_end (eff_of prog w) (operands_of (instruction_at prog w)).dest r h, c))
 
@@ -354,11 +345,11 @@ module _ (prog : Program) (w₀ : Arch) where
         (λ (rs : List ℕ). read_reg rs r) (xm_regs_at prog w g e))
 
     -- no load in EX/MEM writes r
-    abbrev NoException : ℕ → ℕ → ℕ → Type 0
-    NoException n₁ n₂ r = n₂ ≡ suc n₁ → (operands_of (instruction_at prog (walk prog w₀ n₁))).is_load ≡ true → eqb
+    abbrev NoLoad : ℕ → ℕ → ℕ → Type 0
+    NoLoad n₁ n₂ r = n₂ ≡ suc n₁ → (operands_of (instruction_at prog (walk prog w₀ n₁))).is_load ≡ true → eqb
         r 0 ≡ false → is_dest (operands_of (instruction_at prog (walk prog w₀ n₁))).dest r ≡ false
 
-    fwd_xm_slot : (l : ExMem) (t n₁ n₂ r : ℕ) → Xm t l n₁ n₂ → eqb r 0 ≡ false → NoException n₁ n₂ r
+    fwd_xm_slot : (l : ExMem) (t n₁ n₂ r : ℕ) → Xm t l n₁ n₂ → eqb r 0 ≡ false → NoLoad n₁ n₂ r
         → from_ex_mem l prog.features r (read_reg (walk prog w₀ n₁).reg r) ≡ read_reg (walk prog w₀ n₂).reg r
     unfolding from_ex_mem cpuid_word empty_ex_mem walk
     fwd_xm_slot l t n₁ n₂ r (gap e) z h = rw e
@@ -366,7 +357,7 @@ module _ (prog : Program) (w₀ : Arch) where
         z (λ q. h refl q z))
 
     pub fwd_mid : (s : PipelineCpu) (t : ℕ) (asked : List Request) (left : List ℕ) (n₁ n₂ : ℕ) → Mid s t asked left
-        n₁ n₂ → (r : ℕ) → NoException n₁ n₂ r
+        n₁ n₂ → (r : ℕ) → NoLoad n₁ n₂ r
         → forwarded s.stages s.reg r ≡ read_reg (walk prog w₀ n₂).reg r
     unfolding forwarded forward_from
     fwd_mid s t asked left n₁ n₂ i r h = split (eqb r 0)
@@ -392,12 +383,12 @@ module _ (prog : Program) (w₀ : Arch) where
     unfolding is_used_load
     load_uses i j e z = rw z at e
 
-    clear_a : (l : ExMem) (t n₁ n₂ : ℕ) → Xm t l n₁ n₂ → due prog w₀ n₂ ≡ t + 3 → NoException n₁ n₂
+    clear_a : (l : ExMem) (t n₁ n₂ : ℕ) → Xm t l n₁ n₂ → due prog w₀ n₂ ≡ t + 3 → NoLoad n₁ n₂
         (operands_of (I n₂)).src_a
     clear_a l t n₁ n₂ (gap e) d = λ q. absurd (omega arith)
     clear_a l t n₁ n₂ (full e u o) d = λ q e z. use_a _ _ _ (load_uses (I n₁) (I (suc n₁)) (used_none t n₁ u d) e) z
 
-    clear_b : (l : ExMem) (t n₁ n₂ : ℕ) → Xm t l n₁ n₂ → due prog w₀ n₂ ≡ t + 3 → NoException n₁ n₂
+    clear_b : (l : ExMem) (t n₁ n₂ : ℕ) → Xm t l n₁ n₂ → due prog w₀ n₂ ≡ t + 3 → NoLoad n₁ n₂
         (operands_of (I n₂)).src_b
     clear_b l t n₁ n₂ (gap e) d = λ q. absurd (omega arith)
     clear_b l t n₁ n₂ (full e u o) d = λ q e z. use_b _ _ _ (load_uses (I n₁) (I (suc n₁)) (used_none t n₁ u d) e) z
@@ -433,9 +424,9 @@ module _ (prog : Program) (w₀ : Arch) where
     left_slot t n₁ n₂ left l a (gap e) = rw (e, a)
     left_slot t n₁ n₂ left l a (full e d o) = rw (e, a) (left_at prog (W n₁))
 
-    turn_used : (n p : ℕ) (m : Mode) (j : Decoded) → turn_at prog (W n) ≡ To p m → is_used_load (I n) j ≡ false
+    turn_used : (n : ℕ) (q : Place) (j : Decoded) → turn_at prog (W n) ≡ Some q → is_used_load (I n) j ≡ false
     unfolding is_used_load
-    turn_used n p m j e = split (operands_of (I n)).is_load
+    turn_used n p j e = split (operands_of (I n)).is_load
         (λ z. let q = load_turn prog (W n) z in cc)
         (λ z. rw z)
 
@@ -455,7 +446,8 @@ module _ (prog : Program) (w₀ : Arch) where
       -- what ID/EX does is what the path's instruction does
       effect_at_lem : (rs : List ℕ) → due prog w₀ n₂ ≡ t + 3 → effect_for s.stages s.reg (dx_at prog
           (W n₂) rs) ≡ open_of prog (W n₂)
-      unfolding effect_for effect_from forwarded dx_at id_ex_of id_ex_by instruction_at effect_in is_exception open_of open_at
+      unfolding effect_for effect_from forwarded dx_at id_ex_of id_ex_by instruction_at effect_in raised_or open_of
+          open_at
       effect_at_lem rs d =
           ap (λ (u : Bool). effect_of u (I n₂) (W n₂).pc (forwarded s.stages s.reg (operands_of
           (I n₂)).src_a)
@@ -466,10 +458,11 @@ module _ (prog : Program) (w₀ : Arch) where
           (read_reg (W n₂).reg (operands_of (I n₂)).src_a) y) (op_b_at rs d)
 
       -- what ID/EX asks for is what the path's instruction asks for
-      inquire : IdEx → Inquiry
-      inquire l = cond l.valid (effect_for s.stages s.reg l).inquiry NoInquiry
+      inquire : IdEx → Option ℕ
+      inquire l = cond l.valid (effect_for s.stages s.reg l).inquiry None
 
-      inquire_at : (rs : List ℕ) → due prog w₀ n₂ ≡ t + 3 → inquire (dx_at prog (W n₂) rs) ≡ (open_of prog (W n₂)).inquiry
+      inquire_at : (rs : List ℕ) → due prog w₀ n₂ ≡ t + 3
+          → inquire (dx_at prog (W n₂) rs) ≡ (open_of prog (W n₂)).inquiry
       unfolding inquire dx_at id_ex_of id_ex_by
       inquire_at rs d = ap (λ (e : Effect). e.inquiry) (effect_at_lem rs d)
 
@@ -479,33 +472,33 @@ module _ (prog : Program) (w₀ : Arch) where
       asks_at rs e d = ap (λ (l : IdEx). inquire l) e ∙ inquire_at rs d
 
       -- c is what the program says of the special register that ID/EX asks for
-      abbrev Says : Special → Type 0
-      Says c = (n : ℕ) → inquiry_of s.stages s.reg ≡ Of n → c ≡ prog.table n
+      abbrev Says : Option (Option ℕ) → Type 0
+      Says c = (n : ℕ) → inquiry_of s.stages s.reg ≡ Some n → c ≡ prog.table n
 
       -- ID/EX, executed
-      run : Special → IdEx → ExMem
+      run : Option (Option ℕ) → IdEx → ExMem
       run c l = cond l.valid (ex_mem_of l (fill c (effect_for s.stages s.reg l))) empty_ex_mem
 
-      run_at : (c : Special) (rs : List ℕ) → due prog w₀ n₂ ≡ t + 3
-          → ((n : ℕ) → (open_of prog (W n₂)).inquiry ≡ Of n → c ≡ prog.table n)
+      run_at : (c : Option (Option ℕ)) (rs : List ℕ) → due prog w₀ n₂ ≡ t + 3
+          → ((n : ℕ) → (open_of prog (W n₂)).inquiry ≡ Some n → c ≡ prog.table n)
           → run c (dx_at prog (W n₂) rs) ≡ xm_at prog (W n₂)
       unfolding run dx_at id_ex_of id_ex_by xm_at
       run_at c rs d h = ap (λ (e : Effect). ex_mem_of (dx_at prog (W n₂) rs) e)
           (ap (fill c) (effect_at_lem rs d) ∙ filled_at prog (W n₂) c h) ∙ latch_at prog (W n₂) rs (eff_of prog (W n₂))
 
-      execute_at : (c : Special) (rs : List ℕ) → Says c → s.stages.id_ex ≡ dx_at prog (W n₂) rs
+      execute_at : (c : Option (Option ℕ)) (rs : List ℕ) → Says c → s.stages.id_ex ≡ dx_at prog (W n₂) rs
           → due prog w₀ n₂ ≡ t + 3 → executed s.stages s.reg c ≡ xm_at prog (W n₂)
       unfolding executed executed_by run
       execute_at c rs h e d = ap (λ (l : IdEx). run c l) e ∙ run_at c rs d (λ n q. h n (asks_at rs e d ∙ q))
 
       -- the redirect of ID/EX
-      bend : IdEx → Redirect
+      bend : IdEx → Option Place
       bend l = cond l.valid (mispredict l.predicted_taken (effect_for s.stages s.reg l).redirect
-          (fall l.pc l.mode) l.mode) Next
+          (fall l.pc l.mode) l.mode) None
 
       bend_at : (rs : List ℕ) → due prog w₀ n₂ ≡ t + 3 → bend (dx_at prog (W n₂) rs) ≡ turn_at prog (W n₂)
       unfolding bend dx_at id_ex_of id_ex_by instruction_at turn_at predict_at eff_of
-      bend_at rs d = ap (λ (g : Redirect). mispredict (is_to (predict_at prog (W n₂))) g
+      bend_at rs d = ap (λ (g : Option Place). mispredict (is_some (predict_at prog (W n₂))) g
           (fall (W n₂).pc (W n₂).mode) (W n₂).mode)
           (ap (λ (e : Effect). e.redirect) (effect_at_lem rs d) ∙ sym (way_at prog (W n₂)))
 
@@ -515,11 +508,11 @@ module _ (prog : Program) (w₀ : Arch) where
       unfolding redirect_of redirect_by bend
       turn_at_lem rs e d = ap (λ (l : IdEx). bend l) e ∙ bend_at rs d
 
-      execute_none : (c : Special) → s.stages.id_ex ≡ empty_id_ex → executed s.stages s.reg c ≡ empty_ex_mem
+      execute_none : (c : Option (Option ℕ)) → s.stages.id_ex ≡ empty_id_ex → executed s.stages s.reg c ≡ empty_ex_mem
       unfolding executed executed_by run empty_id_ex
       execute_none c e = ap (λ (l : IdEx). run c l) e
 
-      redirect_none : s.stages.id_ex ≡ empty_id_ex → redirect_of s.stages s.reg ≡ Next
+      redirect_none : s.stages.id_ex ≡ empty_id_ex → redirect_of s.stages s.reg ≡ None
       unfolding redirect_of redirect_by bend empty_id_ex
       redirect_none e = ap (λ (l : IdEx). bend l) e
 
@@ -566,7 +559,7 @@ module _ (prog : Program) (w₀ : Arch) where
       unfolding move free_move waits_on begins_wait is_slow choose
       chosen = refl
 
-      move_is : (a l z w : Bool) (g : Redirect) → s.stages.ex_armed ≡ a → ltb 1
+      move_is : (a l z w : Bool) (g : Option Place) → s.stages.ex_armed ≡ a → ltb 1
           s.stages.ex_cycles_left ≡ l → hazard s.stages ≡ z
           → (s.stages.id_ex.valid && ltb 0 (waits s.stages.id_ex.decoded)) ≡ w → redirect_of
           s.stages s.reg ≡ g → move_of s
@@ -575,7 +568,7 @@ module _ (prog : Program) (w₀ : Arch) where
 
       move_empty : s.stages.id_ex ≡ empty_id_ex → s.stages.ex_armed ≡ false → move_of s ≡ proceed
       unfolding choose move_from proceed_or empty_id_ex
-      move_empty e a = move_is false (ltb 1 s.stages.ex_cycles_left) false false Next a refl (hazard_none e)
+      move_empty e a = move_is false (ltb 1 s.stages.ex_cycles_left) false false None a refl (hazard_none e)
           (ap (λ (l : IdEx). l.valid && ltb 0 (waits l.decoded)) e) (redirect_none e)
 
       slow_is : (rs : List ℕ) → s.stages.id_ex ≡ dx_at prog (W n₂) rs →
@@ -584,11 +577,11 @@ module _ (prog : Program) (w₀ : Arch) where
       slow_is rs e = ap (λ (l : IdEx). l.valid && ltb 0 (waits l.decoded)) e
 
       -- fetching behind a guess: what stood in IF/ID is decoded
-      place_is : (g : Redirect) (p : ℕ) (m : Mode) → predicted s.stages.if_id ≡ g
+      place_is : (g : Option Place) (p : ℕ) (m : Mode) → predicted s.stages.if_id ≡ g
           → s.stages.fetch_at.pc ≡ p → s.stages.fetch_at.mode ≡ m →
           fetch_place proceed s.stages ≡ record { pc = target_or g p; mode = mode_or g m }
       unfolding fetch_place fetch_from place_or
-      place_is g p m e1 e2 e3 = λ j. record { pc = target_or (e1 j) (e2 j); mode = mode_or (e1 j) (e3 j) }
+      place_is g p m e1 e2 e3 = (λ j. unwrap_or (e1 j) (record { pc = e2 j; mode = e3 j })) ∙ parts_or g p m
 
       fetched_is : (p : ℕ) (m : Mode) (i : RawInstr) → fetch_place proceed s.stages ≡ record { pc = p; mode = m }
           → decoded_of i ≡
@@ -643,8 +636,8 @@ module _ (prog : Program) (w₀ : Arch) where
           due prog w₀ m ≡ suc t + 3 + waits (I m) → ok_at prog (W m) ≡ true → ok_in (decoded_of inp.raw)
           (fetch_place proceed s.stages).mode ≡ true
           → FrontOf (advance proceed s inp) (suc t) m
-      unfolding advance advance_by advance_stages id_ex_after if_id_after is_wait wait_after place_after counted stalls
-          flushes place_or fetch_from next_ex_mem
+      unfolding advance advance_by advance_stages id_ex_after if_id_after is_wait wait_after place_after counted
+          stalls flushes place_or fetch_from next_ex_mem
       front_flow m inp e p q h d o oi =
           let pl = place_is (predict_at prog (W m)) (fall (W m).pc (W m).mode) (W m).mode (aim_at m e) p q
           in
@@ -654,7 +647,7 @@ module _ (prog : Program) (w₀ : Arch) where
           (ap (λ (x : Place). x.mode) pl ∙ sym fe.mode)
           (λ z. d) (λ z. absurd (false≢true z)) o (fetched_ok inp.raw oi)
 
-      aim_none : s.stages.if_id.valid ≡ false → predicted s.stages.if_id ≡ Next
+      aim_none : s.stages.if_id.valid ≡ false → predicted s.stages.if_id ≡ None
       unfolding predicted
       aim_none e = rw e
 
@@ -666,10 +659,10 @@ module _ (prog : Program) (w₀ : Arch) where
           due prog w₀ m ≡ suc t + 4 + waits (I m) → ok_in (decoded_of inp.raw)
           (fetch_place proceed s.stages).mode ≡ true
           → FrontOf (advance proceed s inp) (suc t) m
-      unfolding advance advance_by advance_stages id_ex_after if_id_after is_wait wait_after place_after counted stalls
-          flushes place_or fetch_from next_ex_mem instruction_at target_or mode_or next_id_ex ok_at
+      unfolding advance advance_by advance_stages id_ex_after if_id_after is_wait wait_after place_after counted
+          stalls flushes place_or fetch_from next_ex_mem instruction_at target_or mode_or next_id_ex ok_at
       front_fetch m inp x e p q h d oi =
-          let pl = place_is Next (W m).pc (W m).mode (aim_none e) p q in
+          let pl = place_is None (W m).pc (W m).mode (aim_none e) p q in
           let fe = fetched_is _ _ inp.raw pl h in
           f1 (rw e) fe refl (fpc_is _ _ pl) (ap (λ (x : Place). x.mode) pl) d
           ((λ j. ok_in (sym fe.instruction j) (sym fe.mode j)) ∙ fetched_ok inp.raw oi)
@@ -694,8 +687,8 @@ module _ (prog : Program) (w₀ : Arch) where
             → s.stages.ex_armed ≡ false → s.stages.fetch_at.pc ≡
             (W n₂).pc → s.stages.fetch_at.mode ≡ (W n₂).mode
             → due prog w₀ n₂ ≡ t + 5 + waits (I n₂) → Ahead (move_of s) inp
-        unfolding advance advance_by advance_stages id_ex_after if_id_after is_wait wait_after place_after counted stalls
-            flushes place_or fetch_from next_ex_mem fetches
+        unfolding advance advance_by advance_stages id_ex_after if_id_after is_wait wait_after place_after counted
+            stalls flushes place_or fetch_from next_ex_mem fetches
         go_f0 x e a p q d =
             let mv = move_empty x a in
             by_move proceed mv (
@@ -710,8 +703,8 @@ module _ (prog : Program) (w₀ : Arch) where
             → s.stages.fetch_at.pc ≡ fall (W n₂).pc
             (W n₂).mode → s.stages.fetch_at.mode ≡ (W n₂).mode
             → due prog w₀ n₂ ≡ t + 4 + waits (I n₂) → ok_at prog (W n₂) ≡ true → Ahead (move_of s) inp
-        unfolding advance advance_by advance_stages id_ex_after if_id_after is_wait wait_after place_after counted stalls
-            flushes place_or fetch_from next_ex_mem fetches
+        unfolding advance advance_by advance_stages id_ex_after if_id_after is_wait wait_after place_after counted
+            stalls flushes place_or fetch_from next_ex_mem fetches
         go_f1 x e a p q d o =
             let mv = move_empty x a in
             by_move proceed mv (
@@ -732,7 +725,7 @@ module _ (prog : Program) (w₀ : Arch) where
             s.stages.if_id.mode ≡ true)
           where
             -- where the guess holds, IF/ID is on the path
-            fd_next : turn_at prog (W n₂) ≡ Next → OnPath (suc n₂)
+            fd_next : turn_at prog (W n₂) ≡ None → OnPath (suc n₂)
             unfolding walk
             fd_next e = let g = next_guessed prog (W n₂) (kind_ok (W n₂) okn) e in record {
               valid = fde.valid;
@@ -742,23 +735,23 @@ module _ (prog : Program) (w₀ : Arch) where
                   fde.instruction ∙ (λ j. prog.instruction (sym g.0 j) (sym g.1 j));
             }
 
-            fpc_next : turn_at prog (W n₂) ≡ Next → s.stages.fetch_at.pc ≡ fall (W (suc n₂)).pc (W
+            fpc_next : turn_at prog (W n₂) ≡ None → s.stages.fetch_at.pc ≡ fall (W (suc n₂)).pc (W
                 (suc n₂)).mode
             fpc_next e = let h = fd_next e in fpce ∙ (λ j. fall (h.pc j) (h.mode j))
 
-            fmode_next : turn_at prog (W n₂) ≡ Next → s.stages.fetch_at.mode ≡ (W (suc n₂)).mode
+            fmode_next : turn_at prog (W n₂) ≡ None → s.stages.fetch_at.mode ≡ (W (suc n₂)).mode
             fmode_next e = fme ∙ (fd_next e).mode
 
-            ok_next : turn_at prog (W n₂) ≡ Next → ok_at prog (W (suc n₂)) ≡ true
+            ok_next : turn_at prog (W n₂) ≡ None → ok_at prog (W (suc n₂)) ≡ true
             unfolding ok_at instruction_at
             ok_next e = let h = fd_next e in (λ j. ok_in (sym h.instruction j) (sym h.mode j)) ∙ okf
 
             hazard_load : hazard s.stages ≡ true → (operands_of (I n₂)).is_load ≡ true
             unfolding hazard load_use dx_at id_ex_of id_ex_by instruction_at
-            hazard_load e = sym (ap (λ (l : IdEx). l.is_load) dxe) ∙ and_4 s.stages.if_id.valid
-                s.stages.id_ex.valid s.stages.id_ex.is_load _ e
+            hazard_load e = sym (ap (λ (l : IdEx). l.is_load) dxe) ∙ both_l s.stages.id_ex.is_load _
+                (both_r s.stages.id_ex.valid _ (both_r s.stages.if_id.valid _ e))
 
-            hazard_next : turn_at prog (W n₂) ≡ Next → hazard s.stages ≡ is_used_load (I n₂) (I (suc n₂))
+            hazard_next : turn_at prog (W n₂) ≡ None → hazard s.stages ≡ is_used_load (I n₂) (I (suc n₂))
             unfolding hazard load_use dx_at id_ex_of id_ex_by instruction_at is_used_load
             hazard_next e = let h = fd_next e in
                 (λ j. h.valid j && (s.stages.id_ex.valid && (s.stages.id_ex.is_load && is_used
@@ -769,9 +762,9 @@ module _ (prog : Program) (w₀ : Arch) where
                 (operands_of (I (suc n₂))).src_b)) dxe
 
             -- the next one's due time
-            due_next : (b : Bool) → turn_at prog (W n₂) ≡ Next → is_used_load (I n₂) (I (suc n₂)) ≡ b
+            due_next : (b : Bool) → turn_at prog (W n₂) ≡ None → is_used_load (I n₂) (I (suc n₂)) ≡ b
                 → due prog w₀ (suc n₂) ≡ due prog w₀ n₂ + 1 + waits (I (suc n₂)) + bit b
-            unfolding is_to bit
+            unfolding bit
             due_next b e h = due_suc n₂ ∙ rw (e, h) (omega arith)
 
             -- ID/EX executes in a move m that is no wait
@@ -779,27 +772,27 @@ module _ (prog : Program) (w₀ : Arch) where
                 → executed s.stages s.reg inp.special ≡ xm_at prog (W n₂)
             executes m mv w d = execute_at inp.special rs (hc (ap is_wait mv ∙ w)) dxe d
 
-            go_stall : due prog w₀ n₂ ≡ t + 3 → hazard s.stages ≡ true → move_of s ≡ load_use_stall Next
-                → Ahead (load_use_stall Next) inp
-            unfolding advance advance_by advance_stages id_ex_after if_id_after is_wait wait_after place_after counted stalls
-                flushes place_or fetch_from next_ex_mem bit is_to target_or mode_or
+            go_stall : due prog w₀ n₂ ≡ t + 3 → hazard s.stages ≡ true → move_of s ≡ load_use_stall None
+                → Ahead (load_use_stall None) inp
+            unfolding advance advance_by advance_stages id_ex_after if_id_after is_wait wait_after place_after counted
+                stalls flushes place_or fetch_from next_ex_mem bit target_or mode_or
             go_stall d h mv =
                 let eo = load_turn prog (W n₂) (hazard_load h) in
                 let dn = due_next true eo (sym (hazard_next eo) ∙ h) in (
                   suc n₂,
-                  assemble (advance (load_use_stall Next) s inp) inp.answer (suc n₂) hv refl refl refl refl refl
+                  assemble (advance (load_use_stall None) s inp) inp.answer (suc n₂) hv refl refl refl refl refl
                       refl refl
                       refl
                       (full (executes _ mv refl d) (omega arith) okn)
                       (f1 refl (fd_next eo) refl (fpc_next eo) (fmode_next eo) (omega arith) (ok_next eo)),
                 )
 
-            go_flow : due prog w₀ n₂ ≡ t + 3 → hazard s.stages ≡ false → turn_at prog (W n₂) ≡ Next
+            go_flow : due prog w₀ n₂ ≡ t + 3 → hazard s.stages ≡ false → turn_at prog (W n₂) ≡ None
                 → move_of s ≡ proceed →
                 Ahead
                 proceed inp
-            unfolding advance advance_by advance_stages id_ex_after if_id_after is_wait wait_after place_after counted stalls
-                flushes place_or fetch_from next_ex_mem bit fetches
+            unfolding advance advance_by advance_stages id_ex_after if_id_after is_wait wait_after place_after counted
+                stalls flushes place_or fetch_from next_ex_mem bit fetches
             go_flow d h eo mv =
                 let dn = due_next false eo (sym (hazard_next eo) ∙ h) in (
                   suc n₂,
@@ -810,28 +803,28 @@ module _ (prog : Program) (w₀ : Arch) where
                       (omega arith) (ok_next eo) (hi proceed mv refl).1),
                 )
 
-            due_flush : (p : ℕ) (m : Mode) → due prog w₀ n₂ ≡ t + 3 → turn_at prog (W n₂) ≡ To p m → due prog w₀
-                (suc n₂) ≡ suc t + 5 + waits (I (suc n₂))
-            unfolding is_to bit
-            due_flush p m d e = due_suc n₂ ∙ rw (d, turn_used n₂ p m (I (suc n₂)) e, e) (omega arith)
+            due_flush : (q : Place) → due prog w₀ n₂ ≡ t + 3 → turn_at prog (W n₂) ≡ Some q
+                → due prog w₀ (suc n₂) ≡ suc t + 5 + waits (I (suc n₂))
+            unfolding bit
+            due_flush q d e = due_suc n₂ ∙ rw (d, turn_used n₂ q (I (suc n₂)) e, e) (omega arith)
 
-            go_flush : due prog w₀ n₂ ≡ t + 3 → (p : ℕ) (m : Mode) → turn_at prog (W n₂) ≡ To p m
-                → move_of s ≡ redirect p m → Ahead (redirect p m) inp
-            unfolding advance advance_by advance_stages id_ex_after if_id_after is_wait wait_after place_after counted stalls
-                flushes place_or fetch_from next_ex_mem cleared walk
-            go_flush d p m e mv =
-                let g = next_turned prog (W n₂) p m e in (
+            go_flush : due prog w₀ n₂ ≡ t + 3 → (q : Place) → turn_at prog (W n₂) ≡ Some q
+                → move_of s ≡ redirect q → Ahead (redirect q) inp
+            unfolding advance advance_by advance_stages id_ex_after if_id_after is_wait wait_after place_after counted
+                stalls flushes place_or fetch_from next_ex_mem cleared walk
+            go_flush d q e mv =
+                let g = next_turned prog (W n₂) q e in (
                   suc n₂,
-                  assemble (advance (redirect p m) s inp) inp.answer (suc n₂) hv refl refl refl refl refl refl
+                  assemble (advance (redirect q) s inp) inp.answer (suc n₂) hv refl refl refl refl refl refl
                       refl refl
                       (full (executes _ mv refl d) (omega arith) okn)
-                      (f0 refl refl refl g.0 g.1 (due_flush p m d e)),
+                      (f0 refl refl refl g.0 g.1 (due_flush q d e)),
                 )
 
             go_hold : s.stages.ex_armed ≡ true → suc (due prog w₀ n₂) ≡ t + 3 + s.stages.ex_cycles_left → 1 <
                 s.stages.ex_cycles_left → s.stages.ex_cycles_left ≤ waits (I n₂) → Ahead keep_waiting inp
-            unfolding advance advance_by advance_stages id_ex_after if_id_after is_wait wait_after place_after counted stalls
-                flushes place_or fetch_from next_ex_mem
+            unfolding advance advance_by advance_stages id_ex_after if_id_after is_wait wait_after place_after counted
+                stalls flushes place_or fetch_from next_ex_mem
             go_hold a d l w = (
               n₂,
               assemble (advance keep_waiting s inp) inp.answer n₂ hv refl refl refl refl refl
@@ -846,8 +839,8 @@ module _ (prog : Program) (w₀ : Arch) where
             waits_dx = ap (λ (l : IdEx). waits l.decoded) dxe
 
             go_arm : due prog w₀ n₂ ≡ t + 3 + waits (I n₂) → 0 < waits (I n₂) → Ahead begin_wait inp
-            unfolding advance advance_by advance_stages id_ex_after if_id_after is_wait wait_after place_after counted stalls
-                flushes place_or fetch_from next_ex_mem
+            unfolding advance advance_by advance_stages id_ex_after if_id_after is_wait wait_after place_after counted
+                stalls flushes place_or fetch_from next_ex_mem
             go_arm d l = let q = waits_dx in (
               n₂,
               assemble (advance begin_wait s inp) inp.answer n₂ hv refl refl
@@ -863,9 +856,9 @@ module _ (prog : Program) (w₀ : Arch) where
             go_free a d = split (hazard s.stages)
                 (λ h. let q = load_quick (I n₂) (hazard_load h) in
                 let d3 : due prog w₀ n₂ ≡ t + 3 = omega arith in
-                let mv = move_is false _ true _ Next a refl h refl
+                let mv = move_is false _ true _ None a refl h refl
                 (turn_at_lem rs dxe d3 ∙ load_turn prog (W n₂) (hazard_load h)) in
-                by_move (load_use_stall Next) mv (go_stall d3 h mv))
+                by_move (load_use_stall None) mv (go_stall d3 h mv))
                 (λ h. split (ltb 0 (waits (I n₂)))
                 (λ w. by_move begin_wait (move_is false _ false true _ a refl h (slow_is rs dxe ∙ w) refl)
                 (go_arm d (ltb-true 0 (waits (I n₂)) w)))
@@ -873,10 +866,10 @@ module _ (prog : Program) (w₀ : Arch) where
                 let d3 : due prog w₀ n₂ ≡ t + 3 = omega arith in
                 let r = turn_at_lem rs dxe d3 in
                 go_cases (turn_at prog (W n₂))
-                (λ e. let mv = move_is false (ltb 1 s.stages.ex_cycles_left) false false Next a refl h
+                (λ e. let mv = move_is false (ltb 1 s.stages.ex_cycles_left) false false None a refl h
                 (slow_is rs dxe ∙ w) (r ∙ e) in by_move proceed mv (go_flow d3 h e mv))
-                (λ p m e. let mv = move_is false (ltb 1 s.stages.ex_cycles_left) false false (To p m)
-                a refl h (slow_is rs dxe ∙ w) (r ∙ e) in by_move (redirect p m) mv (go_flush d3 p m e mv))))
+                (λ q e. let mv = move_is false (ltb 1 s.stages.ex_cycles_left) false false (Some q)
+                a refl h (slow_is rs dxe ∙ w) (r ∙ e) in by_move (redirect q) mv (go_flush d3 q e mv))))
 
             go_waiting : s.stages.ex_armed ≡ true → suc (due prog w₀ n₂) ≡ t + 3 + s.stages.ex_cycles_left → 1 ≤
                 s.stages.ex_cycles_left → s.stages.ex_cycles_left ≤ waits (I n₂) → Ahead (move_of s) inp
@@ -890,7 +883,7 @@ module _ (prog : Program) (w₀ : Arch) where
                 let eo = slow_turn prog (W n₂) ls in
                 split (hazard s.stages)
                 (λ hz. absurd (false≢true (sym (slow_load (I n₂) ls) ∙ hazard_load hz)))
-                (λ hz. let mv = move_is true false false (ltb 0 (waits (I n₂))) Next a h hz (slow_is rs dxe)
+                (λ hz. let mv = move_is true false false (ltb 0 (waits (I n₂))) None a h hz (slow_is rs dxe)
                 (turn_at_lem rs dxe d3 ∙ eo) in by_move proceed mv (go_flow d3 hz eo mv)))
 
         go_front : FrontOf s t n₂ → Ahead (move_of s) inp

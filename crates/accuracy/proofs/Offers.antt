@@ -5,73 +5,73 @@ use lib.Dec.{eqb}
 use mathlib.Core.Bool.{Bool, ◌&&◌, cond, false, true}
 use mathlib.Core.List.{List, [], ◌∷◌}
 use mathlib.Core.Path.{◌∙◌, ◌≡◌, ap, refl, sym}
-use native.Mathlib.Omega.{arith}
+use Rattle.std.specs.Prelude.{Err, None, Ok, Option, Result, Some, ⊤}
 use Rattle.isa.proofs.Bools.{both_l, both_r, split}
 use Rattle.isa.specs.Inquiries.{look_up}
 use Rattle.isa.specs.Machine.{Program, Source}
 use Rattle.isa.specs.Short.{decoded_of}
 use Rattle.pipeline.specs.Ask.{fetch_at, want_fetch, want_special}
-use Rattle.pipeline.specs.Tick.{Result, moved, refused, tick}
+use Rattle.pipeline.specs.Tick.{tick}
 use Rattle.pipeline.specs.Turn.{reply}
+use Rattle.accuracy.proofs.Instructions.{mode_eq}
 use Rattle.accuracy.specs.Accuracy.{Agree, AgreeSaid, Run, first_offer, first_said, offered, offered_by, one, said}
 use Rattle.accuracy.specs.Accuracy.{said_by, same_mode}
 use Rattle.accuracy.specs.Asking.{replies}
-use Rattle.accuracy.specs.Names.{Decoded, Given, Inquiry, Instr, Mode, NoInquiry, Normal, Nothing, Of, Offer}
-use Rattle.accuracy.specs.Names.{PipelineCpu, Place, RawInstr, Short, Special}
+use Rattle.accuracy.specs.Names.{Decoded, Given, Mode, Normal, PipelineCpu, Place, RawInstr, Refusal, Short}
 
 -- a tick on state s whose offer, decoded, is the program's instruction there, and which says of a special register what
 -- the program says
 pub record Meets (prog : Program) (s : PipelineCpu) (t : Given) : Type 0 where
-  pub offer : (i : RawInstr) → t.offer ≡ Instr i
+  pub offer : (i : RawInstr) → t.offer ≡ Some i
       → decoded_of i ≡ prog.instruction (fetch_at s).pc (fetch_at s).mode
-  pub special : (n : ℕ) → want_special s ≡ Of n → t.special ≡ prog.table n
+  pub special : (n : ℕ) → want_special s ≡ Some n → t.special ≡ prog.table n
 
 -- every accepted tick of a list is such
 unfoldable pub AllMeet : Program → Run → List Given → Type 0
-AllMeet prog r [] = Unit {0}
+AllMeet prog r [] = ⊤
 AllMeet prog r (t ∷ ts) =
-    ((s : PipelineCpu) → tick r.state t ≡ moved s → Meets prog r.state t) × AllMeet prog (one r t) ts
+    ((s : PipelineCpu) → tick r.state t ≡ Ok s → Meets prog r.state t) × AllMeet prog (one r t) ts
 
 module _ (f : ℕ → Mode → Decoded) where
   -- an accepted offer is f's instruction for its place
-  abbrev IsAt : Result → Offer → Place → Type 0
-  IsAt o u p = (s : PipelineCpu) (i : RawInstr) → o ≡ moved s → u ≡ Instr i → decoded_of i ≡ f p.pc p.mode
+  abbrev IsAt : Result PipelineCpu Refusal → Option RawInstr → Place → Type 0
+  IsAt o u p = (s : PipelineCpu) (i : RawInstr) → o ≡ Ok s → u ≡ Some i → decoded_of i ≡ f p.pc p.mode
 
   -- one tick more agrees exactly if its offer does
-  split_agree : (o : Result) (u : Offer) (p : Place) (l : List (Place × Decoded)) → Agree f (offered_by o u p l)
-      → IsAt o u p × Agree f l
+  split_agree : (o : Result PipelineCpu Refusal) (u : Option RawInstr) (p : Place) (l : List (Place × Decoded))
+      → Agree f (offered_by o u p l) → IsAt o u p × Agree f l
   unfolding offered_by Agree
-  split_agree (refused c) u p l a = ((λ s i e k. absurd (let z : ◌≡◌ {A = ℕ} 0 1 = cc in omega arith)), a)
-  split_agree (moved s) Nothing p l a = ((λ s i e k. absurd (let z : ◌≡◌ {A = ℕ} 0 1 = cc in omega arith)), a)
-  split_agree (moved s) (Instr j) p l a =
+  split_agree (Err c) u p l a = ((λ s i e k. cc), a)
+  split_agree (Ok s) None p l a = ((λ s i e k. cc), a)
+  split_agree (Ok s) (Some j) p l a =
       ((λ s i e k. let z : i ≡ j = cc in ap (λ (x : RawInstr). decoded_of x) z ∙ sym a.0), a.1)
 
-  join_agree : (o : Result) (u : Offer) (p : Place) (l : List (Place × Decoded)) → IsAt o u p → Agree f l
-      → Agree f (offered_by o u p l)
+  join_agree : (o : Result PipelineCpu Refusal) (u : Option RawInstr) (p : Place) (l : List (Place × Decoded))
+      → IsAt o u p → Agree f l → Agree f (offered_by o u p l)
   unfolding offered_by Agree
-  join_agree (refused c) u p l h a = a
-  join_agree (moved s) Nothing p l h a = a
-  join_agree (moved s) (Instr j) p l h a = (sym (h s j refl refl), a)
+  join_agree (Err c) u p l h a = a
+  join_agree (Ok s) None p l h a = a
+  join_agree (Ok s) (Some j) p l h a = (sym (h s j refl refl), a)
 
-module _ (g : ℕ → Special) where
+module _ (g : ℕ → Option (Option ℕ)) where
   -- what an accepted tick says of a special register is what table g says
-  abbrev SaysAt : Result → Inquiry → Special → Type 0
-  SaysAt o q c = (s : PipelineCpu) (n : ℕ) → o ≡ moved s → q ≡ Of n → c ≡ g n
+  abbrev SaysAt : Result PipelineCpu Refusal → Option ℕ → Option (Option ℕ) → Type 0
+  SaysAt o q c = (s : PipelineCpu) (n : ℕ) → o ≡ Ok s → q ≡ Some n → c ≡ g n
 
   -- one tick more agrees exactly if what it says does
-  split_said : (o : Result) (q : Inquiry) (c : Special) (l : List (ℕ × Special)) → AgreeSaid g (said_by o q c l)
-      → SaysAt o q c × AgreeSaid g l
+  split_said : (o : Result PipelineCpu Refusal) (q : Option ℕ) (c : Option (Option ℕ))
+      (l : List (ℕ × Option (Option ℕ))) → AgreeSaid g (said_by o q c l) → SaysAt o q c × AgreeSaid g l
   unfolding said_by AgreeSaid
-  split_said (refused n) q c l a = ((λ s n e k. absurd (let z : ◌≡◌ {A = ℕ} 0 1 = cc in omega arith)), a)
-  split_said (moved s) NoInquiry c l a = ((λ s n e k. absurd (let z : ◌≡◌ {A = ℕ} 0 1 = cc in omega arith)), a)
-  split_said (moved s) (Of m) c l a = ((λ s n e k. let z : m ≡ n = cc in sym a.0 ∙ ap g z), a.1)
+  split_said (Err r) q c l a = ((λ s n e k. cc), a)
+  split_said (Ok s) None c l a = ((λ s n e k. cc), a)
+  split_said (Ok s) (Some m) c l a = ((λ s n e k. let z : m ≡ n = cc in sym a.0 ∙ ap g z), a.1)
 
-  join_said : (o : Result) (q : Inquiry) (c : Special) (l : List (ℕ × Special)) → SaysAt o q c → AgreeSaid g l
-      → AgreeSaid g (said_by o q c l)
+  join_said : (o : Result PipelineCpu Refusal) (q : Option ℕ) (c : Option (Option ℕ))
+      (l : List (ℕ × Option (Option ℕ))) → SaysAt o q c → AgreeSaid g l → AgreeSaid g (said_by o q c l)
   unfolding said_by AgreeSaid
-  join_said (refused n) q c l h a = a
-  join_said (moved s) NoInquiry c l h a = a
-  join_said (moved s) (Of m) c l h a = (sym (h s m refl refl), a)
+  join_said (Err r) q c l h a = a
+  join_said (Ok s) None c l h a = a
+  join_said (Ok s) (Some m) c l h a = (sym (h s m refl refl), a)
 
 -- a list that agrees with a program's instructions and special registers
 pub all_meet : (prog : Program) (ts : List Given) (r : Run) → Agree prog.instruction (offered r ts)
@@ -86,18 +86,18 @@ all_meet prog (t ∷ ts) r a b =
     )
 
 -- the instruction of a reply
-reply_is : (b : Bool) (o i : RawInstr) → cond b (Instr o) Nothing ≡ Instr i → o ≡ i
+reply_is : (b : Bool) (o i : RawInstr) → cond b (Some o) None ≡ Some i → o ≡ i
 reply_is true o i e = cc
 reply_is false o i e = cc
 
 -- a tick answered from a source offers its instruction
-pub reply_offer : (src : Source) (v : ℕ) (s : PipelineCpu) (i : RawInstr) → (reply src v s).offer ≡ Instr i
+pub reply_offer : (src : Source) (v : ℕ) (s : PipelineCpu) (i : RawInstr) → (reply src v s).offer ≡ Some i
     → decoded_of i ≡ decoded_of (src.raw (fetch_at s).pc (fetch_at s).mode)
 unfolding reply
 reply_offer src v s i e = ap (λ (x : RawInstr). decoded_of x) (sym (reply_is (want_fetch s) _ i e))
 
 -- and says what the source says
-pub reply_special : (src : Source) (v : ℕ) (s : PipelineCpu) (n : ℕ) → want_special s ≡ Of n
+pub reply_special : (src : Source) (v : ℕ) (s : PipelineCpu) (n : ℕ) → want_special s ≡ Some n
     → (reply src v s).special ≡ src.table n
 unfolding reply look_up
 reply_special src v s n e = rw e
@@ -126,13 +126,6 @@ unfolding same_mode
 mode_self Normal = refl
 mode_self Short = refl
 
-mode_eq : (m n : Mode) → same_mode m n ≡ true → m ≡ n
-unfolding same_mode
-mode_eq Normal Normal e = refl
-mode_eq Normal Short e = cc
-mode_eq Short Normal e = cc
-mode_eq Short Short e = refl
-
 -- what agrees with f agrees with g too once g has f's instruction d put at place q
 put_agrees : (f g : ℕ → Mode → Decoded) (q : Place) (d : Decoded) → f q.pc q.mode ≡ d
     → (l : List (Place × Decoded)) → Agree f l → Agree g l
@@ -159,8 +152,8 @@ first_agrees f (x ∷ l) a = (
 )
 
 -- the same of what was said
-put_said : (f g : ℕ → Special) (m : ℕ) (d : Special) → f m ≡ d → (l : List (ℕ × Special)) → AgreeSaid f l
-    → AgreeSaid g l → AgreeSaid (λ n. cond (eqb n m) d (g n)) l
+put_said : (f g : ℕ → Option (Option ℕ)) (m : ℕ) (d : Option (Option ℕ)) → f m ≡ d
+    → (l : List (ℕ × Option (Option ℕ))) → AgreeSaid f l → AgreeSaid g l → AgreeSaid (λ n. cond (eqb n m) d (g n)) l
 unfolding AgreeSaid
 put_said f g m d h [] a b = tt
 put_said f g m d h (x ∷ l) a b = (
@@ -170,7 +163,8 @@ put_said f g m d h (x ∷ l) a b = (
   put_said f g m d h l a.1 b.1,
 )
 
-pub first_says : (g : ℕ → Special) (l : List (ℕ × Special)) → AgreeSaid g l → AgreeSaid (first_said l) l
+pub first_says : (g : ℕ → Option (Option ℕ)) (l : List (ℕ × Option (Option ℕ))) → AgreeSaid g l
+    → AgreeSaid (first_said l) l
 unfolding AgreeSaid first_said
 first_says g [] a = tt
 first_says g (x ∷ l) a = (

@@ -1,21 +1,15 @@
--- A tick that moved has passed every test. Assumes nothing.
-use mathlib.Core.Bool.{Bool, false, false≢true, true}
+-- A verdict that refuses nothing has passed every test. Assumes nothing.
+use mathlib.Core.Bool.{false, false≢true, true}
 use mathlib.Core.Path.{◌≡◌, ap, refl}
-use Rattle.pipeline.specs.Refusals.{Tests, pass, test}
-use Rattle.pipeline.specs.Tick.{Result, moved, refused, verdict}
-use Rattle.accuracy.specs.Names.{PipelineCpu}
-
--- a tick that moved has passed every test
-unfoldable is_moved : Result → Bool
-is_moved (refused n) = false
-is_moved (moved s) = true
+use Rattle.std.specs.Prelude.{Ok, is_ok, ⊤}
+use Rattle.pipeline.specs.Refusals.{Tests, pass, test, verdict}
 
 unfoldable pub Passed : Tests → Type 0
-Passed pass = Unit {0}
-Passed (test b n c) = (b ≡ false) × Passed c
+Passed pass = ⊤
+Passed (test b c d) = (b ≡ false) × Passed d
 
-pub passed : (c : Tests) (s s' : PipelineCpu) → verdict c s ≡ moved s' → Passed c × (s ≡ s')
-unfolding verdict Passed is_moved
-passed pass s s' e = (tt, cc)
-passed (test true n c) s s' e = absurd (false≢true (ap (λ (o : Result). is_moved o) e))
-passed (test false n c) s s' e = let r = passed c s s' e in ((refl, r.0), r.1)
+pub passed : {A : Type 0} (d : Tests) (x y : A) → verdict d x ≡ Ok y → Passed d × (x ≡ y)
+unfolding verdict Passed
+passed pass x y e = (tt, cc)
+passed (test true c d) x y e = absurd (false≢true (ap is_ok e))
+passed (test false c d) x y e = let r = passed d x y e in ((refl, r.0), r.1)

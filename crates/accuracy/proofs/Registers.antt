@@ -8,13 +8,14 @@ use mathlib.Core.Bool.{Bool, ◌&&◌, cond, false, false≢true, true}
 use mathlib.Core.List.{List}
 use mathlib.Core.Path.{◌∙◌, ◌≡◌, ap, refl, sym}
 use native.Mathlib.Omega.{arith}
+use Rattle.std.specs.Prelude.{None, Option, Some}
 use Rattle.isa.proofs.Bools.{split}
 use Rattle.isa.specs.Operands.{ok_dest}
 use Rattle.isa.specs.Registers.{is_dest, is_reg, put_reg, read_reg, write_cpuid, write_reg}
 use Rattle.latch.specs.Forwarding.{cpuid_word, forward_from, from_ex_mem, from_mem_wb}
 use Rattle.latch.specs.Retire.{retire_cpuid, retire_reg, retired_regs}
 use Rattle.stages.specs.Forwarding.{forwarded}
-use Rattle.accuracy.specs.Names.{Dest, ExMem, MemWb, NoDest, PipelineCpu, Reg}
+use Rattle.accuracy.specs.Names.{ExMem, MemWb, PipelineCpu}
 
 pos_of : (r : ℕ) → (r ≡ 0 → ⊥) → 0 < r
 pos_of zero h = absurd (h refl)
@@ -53,18 +54,18 @@ unfolding is_reg
 zero_reg d e = rw (eqb-true d 0 e)
 
 -- what a register reads after a write to d
-pub read_put : (d : Dest) (v : ℕ) (rs : List ℕ) (r : ℕ) → ok_dest d ≡ true → length rs ≡ 32 → eqb r 0 ≡ false
+pub read_put : (d : Option ℕ) (v : ℕ) (rs : List ℕ) (r : ℕ) → ok_dest d ≡ true → length rs ≡ 32 → eqb r 0 ≡ false
     → read_reg (write_reg d v rs) r ≡ cond (is_dest d r) v (read_reg rs r)
 unfolding write_reg put_reg is_dest ok_dest
-read_put NoDest v rs r h n z = refl
-read_put (Reg d) v rs r h n z = split (eqb d 0)
+read_put None v rs r h n z = refl
+read_put (Some d) v rs r h n z = split (eqb d 0)
     (λ e. rw (zero_reg d e, ne_eqb d r (λ q. eqb-false r 0 z (sym q ∙ eqb-true d 0 e))))
     (λ e. rw (is_reg_lem d e h) (read_set rs d v r n (ltb-true d 32 h) z))
 
-pub length_put : (d : Dest) (v : ℕ) (rs : List ℕ) → length (write_reg d v rs) ≡ length rs
+pub length_put : (d : Option ℕ) (v : ℕ) (rs : List ℕ) → length (write_reg d v rs) ≡ length rs
 unfolding write_reg put_reg
-length_put NoDest v rs = refl
-length_put (Reg d) v rs = split (is_reg d) (λ e. rw e (length-set rs d v)) (λ e. rw e)
+length_put None v rs = refl
+length_put (Some d) v rs = split (is_reg d) (λ e. rw e (length-set rs d v)) (λ e. rw e)
 
 pub length_cpu : (c : Bool) (f : ℕ) (rs : List ℕ) → length (write_cpuid c f rs) ≡ length rs
 unfolding write_cpuid
@@ -76,12 +77,12 @@ unfolding retire_cpuid
 length_cpu_z false f rs = refl
 length_cpu_z true f rs = simp length-set
 
-pub read_put_z : (d : Dest) (v : ℕ) (rs : List ℕ) (r : ℕ) → ok_dest d ≡ true → length rs ≡ 32 → eqb r 0 ≡ false
+pub read_put_z : (d : Option ℕ) (v : ℕ) (rs : List ℕ) (r : ℕ) → ok_dest d ≡ true → length rs ≡ 32 → eqb r 0 ≡ false
     → read_reg (retire_reg d v rs) r ≡ cond (is_dest d r) v (read_reg rs r)
 unfolding retire_reg put_reg write_reg
-read_put_z NoDest v rs r h n z = read_put NoDest v rs r h n z
-read_put_z (Reg d) v rs r h n z =
-    read_zero (write_reg (Reg d) v rs) r (length_put (Reg d) v rs ∙ n) z ∙ read_put (Reg d) v rs r h n z
+read_put_z None v rs r h n z = read_put None v rs r h n z
+read_put_z (Some d) v rs r h n z =
+    read_zero (write_reg (Some d) v rs) r (length_put (Some d) v rs ∙ n) z ∙ read_put (Some d) v rs r h n z
 
 pub read_cpu_z : (c : Bool) (f : ℕ) (rs : List ℕ) (r : ℕ) → length rs ≡ 32 → eqb r 0 ≡ false
     → read_reg (retire_cpuid c f rs) r ≡ cpuid_word c f r (read_reg rs r)
@@ -103,10 +104,10 @@ reg_zero : (d : ℕ) → is_reg d ≡ true → d ≡ 0 → ⊥
 unfolding is_reg
 reg_zero d e q = let z : ◌≡◌ {A = Bool} false true = sym (rw q) ∙ e in absurd (false≢true z)
 
-pub zero_put : (d : Dest) (v : ℕ) (rs : List ℕ) → get_or rs 0 0 ≡ 0 → get_or (write_reg d v rs) 0 0 ≡ 0
+pub zero_put : (d : Option ℕ) (v : ℕ) (rs : List ℕ) → get_or rs 0 0 ≡ 0 → get_or (write_reg d v rs) 0 0 ≡ 0
 unfolding write_reg put_reg
-zero_put NoDest v rs e = e
-zero_put (Reg d) v rs e = split (is_reg d)
+zero_put None v rs e = e
+zero_put (Some d) v rs e = split (is_reg d)
     (λ z. rw z (get_or-set_other rs d 0 v 0 (λ q. reg_zero d z (sym q)) ∙ e))
     (λ z. rw z e)
 
@@ -116,10 +117,10 @@ zero_cpu false f rs e = e
 zero_cpu true f rs e = get_or-set_other (set rs 1 0x53524332) 2 0 f 0 (λ q. omega arith) ∙ get_or-set_other rs 1 0
     0x53524332 0 (λ q. omega arith) ∙ e
 
-pub put_z_same : (d : Dest) (v : ℕ) (rs : List ℕ) → get_or rs 0 0 ≡ 0 → retire_reg d v rs ≡ write_reg d v rs
+pub put_z_same : (d : Option ℕ) (v : ℕ) (rs : List ℕ) → get_or rs 0 0 ≡ 0 → retire_reg d v rs ≡ write_reg d v rs
 unfolding retire_reg put_reg write_reg
-put_z_same NoDest v rs e = refl
-put_z_same (Reg d) v rs e = zero_same (write_reg (Reg d) v rs) (zero_put (Reg d) v rs e)
+put_z_same None v rs e = refl
+put_z_same (Some d) v rs e = zero_same (write_reg (Some d) v rs) (zero_put (Some d) v rs e)
 
 pub cpu_z_same : (c : Bool) (f : ℕ) (rs : List ℕ) → get_or rs 0 0 ≡ 0 → retire_cpuid c f rs ≡ write_cpuid c f rs
 unfolding retire_cpuid write_cpuid
@@ -127,8 +128,8 @@ cpu_z_same false f rs e = refl
 cpu_z_same true f rs e = zero_same (write_cpuid true f rs) (zero_cpu true f rs e)
 
 -- the forwarding law, latch by latch
-mw_law : (valid wb c : Bool) (d : Dest) (val f : ℕ) (rs : List ℕ) (r : ℕ) → ok_dest d ≡ true → length rs ≡ 32 → eqb r
-    0 ≡ false
+mw_law : (valid wb c : Bool) (d : Option ℕ) (val f : ℕ) (rs : List ℕ) (r : ℕ) → ok_dest d ≡ true
+    → length rs ≡ 32 → eqb r 0 ≡ false
     → cond (valid && (wb && is_dest d r)) val (cpuid_word (valid && c) f r (read_reg rs r))
     ≡ read_reg (cond valid (cond wb (retire_reg d val (retire_cpuid c f rs)) (retire_cpuid c f rs)) rs) r
 unfolding cpuid_word
@@ -156,7 +157,7 @@ unfolding from_ex_mem xm_regs
 fwd_xm l f rs r h n z e = rw e (mw_law l.valid l.writeback l.cpuid l.dest l.alu_result f rs r h n
     z)
 
-xm_load : (valid wb c : Bool) (d : Dest) (val f : ℕ) (v r : ℕ) → c ≡ false
+xm_load : (valid wb c : Bool) (d : Option ℕ) (val f : ℕ) (v r : ℕ) → c ≡ false
     → cond (valid && (wb && (false && is_dest d r))) val (cpuid_word (valid && c) f r v) ≡ v
 unfolding cpuid_word
 xm_load false wb c d val f v r e = refl
@@ -170,12 +171,12 @@ unfolding from_ex_mem
 fwd_load l f v r e c = rw e (xm_load l.valid l.writeback l.cpuid l.dest l.alu_result f v r c)
 
 -- the forwarding law of a whole state: a register's value after MEM/WB's and then EX/MEM's writes
-length_put_z : (d : Dest) (v : ℕ) (rs : List ℕ) → length (retire_reg d v rs) ≡ length rs
+length_put_z : (d : Option ℕ) (v : ℕ) (rs : List ℕ) → length (retire_reg d v rs) ≡ length rs
 unfolding retire_reg put_reg write_reg
-length_put_z NoDest v rs = refl
-length_put_z (Reg d) v rs = length-set (write_reg (Reg d) v rs) 0 0 ∙ length_put (Reg d) v rs
+length_put_z None v rs = refl
+length_put_z (Some d) v rs = length-set (write_reg (Some d) v rs) 0 0 ∙ length_put (Some d) v rs
 
-length_by : (v w c : Bool) (d : Dest) (x f : ℕ) (rs : List ℕ) → length
+length_by : (v w c : Bool) (d : Option ℕ) (x f : ℕ) (rs : List ℕ) → length
     (cond v (cond w (retire_reg d x (retire_cpuid c f rs)) (retire_cpuid c f rs)) rs) ≡ length rs
 length_by false w c d x f rs = refl
 length_by true false c d x f rs = length_cpu_z c f rs

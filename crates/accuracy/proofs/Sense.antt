@@ -4,18 +4,19 @@ use mathlib.Core.Bool.{Bool, cond, false, true}
 use mathlib.Core.List.{List, [], ◌++◌, ◌∷◌}
 use mathlib.Core.Path.{◌∙◌, ◌≡◌, ap, refl, sym}
 use native.Mathlib.Omega.{arith}
+use Rattle.std.specs.Prelude.{Err, Ok, Result}
 use Rattle.isa.proofs.Bools.{split}
 use Rattle.isa.specs.Machine.{Arch, Program}
 use Rattle.pipeline.specs.Advance.{advance, move_of, next, resting}
 use Rattle.pipeline.specs.Retire.{retire}
-use Rattle.pipeline.specs.Tick.{Result, moved, refused, taken, tick}
+use Rattle.pipeline.specs.Tick.{taken, tick}
 use Rattle.stages.specs.Advance.{awake}
 use Rattle.stages.specs.Counting.{count_idle, count_retired, counted}
 use Rattle.stages.specs.Retire.{retire_stages}
 use Rattle.word.specs.Words.{bit}
 use Rattle.accuracy.proofs.Took.{advance_retired, took}
 use Rattle.accuracy.specs.Accuracy.{Retires, Run, after, one, one_by}
-use Rattle.accuracy.specs.Names.{Given, Move, PipelineCpu, Taken}
+use Rattle.accuracy.specs.Names.{Given, Move, PipelineCpu, Refusal, Taken}
 
 -- a tick adds at most one retirement
 ran : (s : PipelineCpu) (x : Taken) → awake s.stages ≡ true → (next s x).counts.instructions_executed ≡
@@ -44,12 +45,12 @@ go_count s x = split (awake s.stages)
     (λ e. let h = ran s x e in let k = bit_le s.stages.mem_wb.valid in (omega arith, omega arith))
     (λ e. let h = idled s x e in (omega arith, omega arith))
 
-count_by : (r : Run) (t : Given) (o : Result) → tick r.state t ≡ o →
+count_by : (r : Run) (t : Given) (o : Result PipelineCpu Refusal) → tick r.state t ≡ o →
     (r.state.counts.instructions_executed ≤ (one_by o t r).state.counts.instructions_executed) ×
     ((one_by o t r).state.counts.instructions_executed ≤ suc r.state.counts.instructions_executed)
 unfolding one_by
-count_by r t (refused c) e = (omega arith, omega arith)
-count_by r t (moved s) e =
+count_by r t (Err c) e = (omega arith, omega arith)
+count_by r t (Ok s) e =
     let w = took r.state t s e in
     let c = go_count r.state (taken t) in
     let h : (next r.state (taken t)).counts.instructions_executed ≡ s.counts.instructions_executed = ap
@@ -81,11 +82,11 @@ go_ticks s x = split (awake s.stages)
     (move_of (retire s)) (retire s) x)
     (λ e. ap (λ (b : Bool). (cond b (advance (move_of (retire s)) (retire s) x) (resting s)).counts.cycles) e)
 
-ticks_by : (r : Run) (t : Given) (o : Result) → tick r.state t ≡ o → r.accepted ≡ r.state.counts.cycles →
-    (one_by o t r).accepted ≡ (one_by o t r).state.counts.cycles
+ticks_by : (r : Run) (t : Given) (o : Result PipelineCpu Refusal) → tick r.state t ≡ o
+    → r.accepted ≡ r.state.counts.cycles → (one_by o t r).accepted ≡ (one_by o t r).state.counts.cycles
 unfolding one_by
-ticks_by r t (refused c) e h = h
-ticks_by r t (moved s) e h =
+ticks_by r t (Err c) e h = h
+ticks_by r t (Ok s) e h =
     let w = took r.state t s e in
     let k = go_ticks r.state (taken t) in
     let q : (next r.state (taken t)).counts.cycles ≡ s.counts.cycles = ap
@@ -99,22 +100,6 @@ numbered r [] h = h
 numbered r (t ∷ ts) h = numbered (one r t) ts (ticks_by r t (tick r.state t) refl h)
 
 -- so the tick that raises the count to N is a single one
-head_or : Given → List Given → Given
-head_or d [] = d
-head_or d (t ∷ ts) = t
-
-tail_of : List Given → List Given
-tail_of [] = []
-tail_of (t ∷ ts) = ts
-
-same_head : (t u : Given) (ts us : List Given) → t ∷ ts ≡ u ∷ us → t ≡ u
-unfolding head_or
-same_head t u ts us e = ap (λ (l : List Given). head_or t l) e
-
-same_tail : (t u : Given) (ts us : List Given) → t ∷ ts ≡ u ∷ us → ts ≡ us
-unfolding tail_of
-same_tail t u ts us e = ap (λ (l : List Given). tail_of l) e
-
 only : (pre pre' post post' : List Given) (here here' : Given) (r : Run) (N : ℕ) → pre ++ here ∷ post ≡ pre' ++
     here' ∷ post'
     → suc (after r pre).state.counts.instructions_executed ≡ N →
@@ -122,22 +107,21 @@ only : (pre pre' post post' : List Given) (here here' : Given) (r : Run) (N : �
     → suc (after r pre').state.counts.instructions_executed ≡ N →
     (one (after r pre') here').state.counts.instructions_executed ≡ N → (pre ≡ pre') × (here ≡ here')
 unfolding after
-only [] [] post post' here here' r N e a b c d = (refl, same_head here here' post post' e)
+only [] [] post post' here here' r N e a b c d = (refl, cc)
 only [] (t ∷ q) post post' here here' r N e a b c d =
-    let h = same_head here t post (q ++ here' ∷ post') e in
+    let h : here ≡ t = cc in
     let k : (one r t).state.counts.instructions_executed ≡ N = ap
     (λ (x : Given). (one r x).state.counts.instructions_executed) (sym h) ∙ b in
     let m = more_count (one r t) q in absurd (omega arith)
 only (t ∷ q) [] post post' here here' r N e a b c d =
-    let h = same_head t here' (q ++ here ∷ post) post' e in
+    let h : t ≡ here' = cc in
     let k : (one r t).state.counts.instructions_executed ≡ N = ap
     (λ (x : Given). (one r x).state.counts.instructions_executed) h ∙ d in
     let m = more_count (one r t) q in absurd (omega arith)
 only (t ∷ q) (t' ∷ q') post post' here here' r N e a b c d =
-    let h = same_head t t' (q ++ here ∷ post) (q' ++ here' ∷ post') e in
-    let z = only q q' post post' here here' (one r t) N (same_tail t t' (q ++ here ∷ post) (q' ++ here' ∷ post') e)
-    a
-    b
+    let h : t ≡ t' = cc in
+    let l : q ++ here ∷ post ≡ q' ++ here' ∷ post' = cc in
+    let z = only q q' post post' here here' (one r t) N l a b
     (ap (λ (x : Given). suc (after (one r x) q').state.counts.instructions_executed) h ∙ c)
     (ap (λ (x : Given). (one (after (one r x) q') here').state.counts.instructions_executed) h ∙ d) in
     ((λ j. h j ∷ z.0 j), z.1)

@@ -3,15 +3,15 @@ use Prim.Native.Nat.{◌*◌, ◌+◌, ◌<◌, ◌≤◌, suc, zero, ℕ}
 use mathlib.Core.Bool.{Bool, ◌&&◌, false, true}
 use mathlib.Core.Path.{◌∙◌, ◌≡◌, ap, refl, subst, sym}
 use native.Mathlib.Omega.{arith}
+use Rattle.std.specs.Prelude.{Option, is_some}
 use Rattle.isa.proofs.Machine.{did_walk, walk}
 use Rattle.isa.specs.Machine.{Arch, Program, instruction_at, machine}
-use Rattle.isa.specs.Redirects.{is_to}
 use Rattle.isa.specs.Waits.{is_div, is_mul, is_used_load, waits}
 use Rattle.word.specs.Words.{bit}
 use Rattle.accuracy.proofs.Instructions.{slow_load, slow_one, waits_is}
 use Rattle.accuracy.proofs.Path.{due, slow_turn, swerve_turn}
 use Rattle.accuracy.specs.Count.{count, divides, is_redirect, multiplies, path, redirects, retire_tick, used_loads}
-use Rattle.accuracy.specs.Names.{Decoded, Redirect}
+use Rattle.accuracy.specs.Names.{Decoded, Place}
 
 pub count_same : (p q : ℕ → Bool) (k : ℕ) → ((n : ℕ) → n < k → p n ≡ q n) → count p k ≡ count q k
 unfolding count
@@ -40,13 +40,13 @@ bits false false false false e h k = omega arith
 
 cost : (prog : Program) (w : Arch) (j : Decoded) → waits (instruction_at prog w) + bit
     (is_used_load (instruction_at prog w) j) + 2 * bit (is_redirect prog w) ≤ 15
-unfolding is_used_load is_to
+unfolding is_used_load
 cost prog w j = subst (λ (k : ℕ). k + bit (is_used_load (instruction_at prog w) j) + 2 * bit (is_redirect prog w) ≤ 15)
     (sym (waits_is (instruction_at prog w))) (bits (is_mul (instruction_at prog w)) (is_div (instruction_at prog w))
     (is_used_load (instruction_at prog w) j) (is_redirect prog w) (slow_one (instruction_at prog w))
     (λ h. rw (slow_load (instruction_at prog w) (subst (λ (n : ℕ). 0 < n) (sym (waits_is (instruction_at prog w)))
     h)))
-    (λ h. sym (swerve_turn prog w) ∙ ap (λ (g : Redirect). is_to g)
+    (λ h. sym (swerve_turn prog w) ∙ ap (λ (g : Option Place). is_some g)
     (slow_turn prog w (subst (λ (n : ℕ). 0 < n) (sym (waits_is (instruction_at prog w))) h))))
 
 bound_by : (prog : Program) (w : Arch) (n : ℕ)

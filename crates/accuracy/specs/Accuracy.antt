@@ -1,15 +1,14 @@
 -- RULES 15.3 to 15.8: one claim about a whole list of ticks, from a fresh state.
 use Rattle.std.specs.Prelude.{◌*◌, ◌+◌, ◌≤◌, suc, ℕ, ◌==◌, length, Bool, ◌&&◌, cond, false, true, List, [], ◌++◌, ◌∷◌}
-use Rattle.std.specs.Prelude.{◌≡◌}
+use Rattle.std.specs.Prelude.{◌≡◌, ⊤, Option, None, Some, option_to_list, Result, Ok, Err}
 use Rattle.isa.specs.Machine.{Arch, Program, arch_with, machine, whole_program}
 use Rattle.isa.specs.Short.{decoded_of}
 use Rattle.pipeline.specs.Ask.{asks, fetch_at, want_special}
 use Rattle.pipeline.specs.Start.{fresh}
-use Rattle.pipeline.specs.Tick.{Result, moved, refused, tick}
+use Rattle.pipeline.specs.Tick.{tick}
 use Rattle.accuracy.specs.Count.{path, retire_tick}
-use Rattle.accuracy.specs.Names.{Answer, DecNormal, Decoded, Given, Inquiry, Instr, Mode, NoAnswer, NoInquiry}
-use Rattle.accuracy.specs.Names.{NoSuch, Nop, Normal, Nothing, Of, Offer, PipelineCpu, Place, Request, Short}
-use Rattle.accuracy.specs.Names.{Special, Start, Word}
+use Rattle.accuracy.specs.Names.{DecNormal, Decoded, Given, Mode, Nop, Normal, PipelineCpu, Place, RawInstr, Refusal}
+use Rattle.accuracy.specs.Names.{Request, Short, Start}
 
 -- a list of ticks so far: the state handed back, the accepted ticks, the requests asked for in them
 pub record Run : Type 0 where
@@ -18,9 +17,9 @@ pub record Run : Type 0 where
   pub requests : List Request
 
 -- one tick more: a refused one has no number and changes nothing
-unfoldable pub one_by : Result → Given → Run → Run
-one_by (refused c) t r = r
-one_by (moved s) t r =
+unfoldable pub one_by : Result PipelineCpu Refusal → Given → Run → Run
+one_by (Err c) t r = r
+one_by (Ok s) t r =
     record { state = s; accepted = suc r.accepted; requests = r.requests ++ asks r.state.stages }
 
 unfoldable pub one : Run → Given → Run
@@ -31,23 +30,20 @@ after r [] = r
 after r (t ∷ ts) = after (one r t) ts
 
 -- the accepted ticks' answers, in order; a refused tick feeds the machine nothing
-unfoldable pub word_list : Answer → List ℕ
-word_list NoAnswer = []
-word_list (Word v) = v ∷ []
-
-unfoldable pub fed : Result → Given → List ℕ
-fed (refused c) t = []
-fed (moved s) t = word_list t.answer
+unfoldable pub fed : Result PipelineCpu Refusal → Given → List ℕ
+fed (Err c) t = []
+fed (Ok s) t = option_to_list t.answer
 
 unfoldable pub answers : Run → List Given → List ℕ
 answers r [] = []
 answers r (t ∷ ts) = fed (tick r.state t) t ++ answers (one r t) ts
 
 -- the instructions offered to accepted ticks, each with the address and mode that it was fetched from
-unfoldable pub offered_by : Result → Offer → Place → List (Place × Decoded) → List (Place × Decoded)
-offered_by (refused c) o p l = l
-offered_by (moved s) Nothing p l = l
-offered_by (moved s) (Instr i) p l = (p, decoded_of i) ∷ l
+unfoldable pub offered_by : Result PipelineCpu Refusal → Option RawInstr → Place → List (Place × Decoded)
+    → List (Place × Decoded)
+offered_by (Err c) o p l = l
+offered_by (Ok s) None p l = l
+offered_by (Ok s) (Some i) p l = (p, decoded_of i) ∷ l
 
 unfoldable pub offered : Run → List Given → List (Place × Decoded)
 offered r [] = []
@@ -55,7 +51,7 @@ offered r (t ∷ ts) = offered_by (tick r.state t) t.offer (fetch_at r.state) (o
 
 -- each of them is the one that f has for its address and mode
 unfoldable pub Agree : (ℕ → Mode → Decoded) → List (Place × Decoded) → Type 0
-Agree f [] = Unit {0}
+Agree f [] = ⊤
 Agree f (x ∷ l) = (f x.0.pc x.0.mode ≡ x.1) × Agree f l
 
 unfoldable pub same_mode : Mode → Mode → Bool
@@ -70,23 +66,24 @@ first_offer [] p m = DecNormal Nop
 first_offer (x ∷ l) p m = cond (p == x.0.pc && same_mode m x.0.mode) x.1 (first_offer l p m)
 
 -- what was said of special registers in accepted ticks, each with the number that was asked for
-unfoldable pub said_by : Result → Inquiry → Special → List (ℕ × Special) → List (ℕ × Special)
-said_by (refused c) q x l = l
-said_by (moved s) NoInquiry x l = l
-said_by (moved s) (Of n) x l = (n, x) ∷ l
+unfoldable pub said_by : Result PipelineCpu Refusal → Option ℕ → Option (Option ℕ) → List (ℕ × Option (Option ℕ))
+    → List (ℕ × Option (Option ℕ))
+said_by (Err c) q x l = l
+said_by (Ok s) None x l = l
+said_by (Ok s) (Some n) x l = (n, x) ∷ l
 
-unfoldable pub said : Run → List Given → List (ℕ × Special)
+unfoldable pub said : Run → List Given → List (ℕ × Option (Option ℕ))
 said r [] = []
 said r (t ∷ ts) = said_by (tick r.state t) (want_special r.state) t.special (said (one r t) ts)
 
 -- each of it is what table g says of its number
-unfoldable pub AgreeSaid : (ℕ → Special) → List (ℕ × Special) → Type 0
-AgreeSaid g [] = Unit {0}
+unfoldable pub AgreeSaid : (ℕ → Option (Option ℕ)) → List (ℕ × Option (Option ℕ)) → Type 0
+AgreeSaid g [] = ⊤
 AgreeSaid g (x ∷ l) = (g x.0 ≡ x.1) × AgreeSaid g l
 
 -- the first of it for number n, or no such register
-unfoldable pub first_said : List (ℕ × Special) → ℕ → Special
-first_said [] n = NoSuch
+unfoldable pub first_said : List (ℕ × Option (Option ℕ)) → ℕ → Option (Option ℕ)
+first_said [] n = Some None
 first_said (x ∷ l) n = cond (n == x.0) x.1 (first_said l n)
 
 -- the run before its first tick
@@ -127,7 +124,7 @@ Demand3 =
 -- any table that what was said agrees with
 abbrev pub Demand3For : Type 0
 Demand3For =
-    (f : ℕ → Mode → Decoded) (g : ℕ → Special) (v : Start) (ts : List Given) → length v.reg ≡ 32
+    (f : ℕ → Mode → Decoded) (g : ℕ → Option (Option ℕ)) (v : Start) (ts : List Given) → length v.reg ≡ 32
     → let r = begin v in
     Agree f (offered r ts) → AgreeSaid g (said r ts)
     → (N : ℕ) → 1 ≤ N → N ≤ (after r ts).state.counts.instructions_executed

@@ -6,7 +6,7 @@
 -- (11, 12), Loads. pipeline: Retire, Advance, Start, Refusals (13), Ask (asking), Tick (3, 4, 10), Turn (a source's
 -- tick).
 -- Here: Count (M, D, L, R, the formula), Accuracy (RULES 15.6), Asking, Example.
-use Rattle.std.specs.Prelude.{suc, ℕ, length, Bool, false, true, List, ◌++◌, ◌∷◌, ◌≡◌}
+use Rattle.std.specs.Prelude.{suc, ℕ, length, Bool, false, true, List, ◌++◌, ◌∷◌, ◌≡◌, Option, Ok, Err}
 use Rattle.isa.specs.Machine.{Arch, Program, Source}
 use Rattle.isa.specs.Operands.{ok_dest}
 use Rattle.isa.specs.Registers.{read_reg}
@@ -18,15 +18,14 @@ use Rattle.latch.specs.Memory.{mem_wb_of}
 use Rattle.latch.specs.Retire.{retired_regs}
 use Rattle.origin.specs.Origins.{origins_of, value_from}
 use Rattle.pipeline.specs.Start.{fresh}
-use Rattle.pipeline.specs.Tick.{moved, tick, ticked}
+use Rattle.pipeline.specs.Tick.{tick, ticked}
 use Rattle.stages.specs.Forwarding.{forwarded}
 use Rattle.stages.specs.Refusals.{out_of_bounds}
 use Rattle.accuracy.specs.Accuracy.{Agree, AgreeSaid, Demand3, Demand3For, Retires, Run, after, first_offer}
 use Rattle.accuracy.specs.Accuracy.{first_said, offered, one, said}
 use Rattle.accuracy.specs.Asking.{Asking, replies}
 use Rattle.accuracy.specs.Example.{Example}
-use Rattle.accuracy.specs.Names.{Decoded, ExMem, Given, MemWb, Mode, PipelineCpu, Place, Refused, Special}
-use Rattle.accuracy.specs.Names.{Stages, Start}
+use Rattle.accuracy.specs.Names.{Decoded, ExMem, Given, MemWb, Mode, PipelineCpu, Place, Refusal, Stages, Start}
 
 -- Everything claimed; proved in proofs/Claims.antt.
 pub record Claims : Type 0 where
@@ -43,17 +42,17 @@ pub record Claims : Type 0 where
   -- The premise, RULES 15.4, holds wherever the offers agree with any instructions and what was said with any table, as
   -- those of one who answers what is asked from a fixed source do.
   pub premise : (f : ℕ → Mode → Decoded) (l : List (Place × Decoded)) → Agree f l → Agree (first_offer l) l
-  pub premise_said : (g : ℕ → Special) (l : List (ℕ × Special)) → AgreeSaid g l → AgreeSaid (first_said l) l
+  pub premise_said : (g : ℕ → Option (Option ℕ)) (l : List (ℕ × Option (Option ℕ))) → AgreeSaid g l → AgreeSaid (first_said l) l
   pub answered : (src : Source) (vs : List ℕ) (r : Run)
       → Agree (λ p m. decoded_of (src.raw p m)) (offered r (replies src vs r))
   pub answered_said : (src : Source) (vs : List ℕ) (r : Run) → AgreeSaid src.table (said r (replies src vs r))
   -- What a list hands on is the state that the tick hands back, and a refused tick hands back the very state.
   pub hands_on : (r : Run) (t : Given) → (one r t).state ≡ (ticked r.state t).state
-  pub hands_back : (s : PipelineCpu) (t : Given) (n : ℕ) → (ticked s t).outcome ≡ Refused n → (ticked s t).state ≡ s
+  pub hands_back : (s : PipelineCpu) (t : Given) (c : Refusal) → (ticked s t).outcome ≡ Err c → (ticked s t).state ≡ s
   pub asking : Asking
   -- A fresh state is in bounds, and an accepted tick keeps the bounds: 11 never arises in a list.
   pub fresh : (v : Start) → out_of_bounds (fresh v).stages ≡ false
-  pub keeps : (s : PipelineCpu) (t : Given) (s' : PipelineCpu) → tick s t ≡ moved s' → out_of_bounds s'.stages ≡ false
+  pub keeps : (s : PipelineCpu) (t : Given) (s' : PipelineCpu) → tick s t ≡ Ok s' → out_of_bounds s'.stages ≡ false
   -- Forwarding: for each register its value after MEM/WB's and then EX/MEM's writes, R0 reading as 0, where EX/MEM is
   -- no load or store (that neither holds an exception, MTSR, IRET or HALT is not needed for the registers).
   pub forwarding : (l : Stages) (rs : List ℕ) (r v : ℕ) → ok_dest l.mem_wb.dest ≡ true

@@ -1,20 +1,19 @@
 -- What the accuracy rule counts, read off the one-at-a-time machine's path; no part of the pipeline stands here.
-use Rattle.std.specs.Prelude.{◌*◌, ◌+◌, pred, suc, zero, ℕ, Bool, cond, not}
+use Rattle.std.specs.Prelude.{◌*◌, ◌+◌, pred, suc, zero, ℕ, Bool, cond, not, Option, is_some}
 use Rattle.isa.specs.Machine.{Arch, Program, effect_at, instruction_at, machine}
-use Rattle.isa.specs.Redirects.{is_to}
 use Rattle.isa.specs.Waits.{is_div, is_mul, is_used_load, predict}
 use Rattle.word.specs.Words.{bit}
-use Rattle.accuracy.specs.Names.{Redirect}
+use Rattle.accuracy.specs.Names.{Place}
 
 -- the prediction at an instruction
-unfoldable pub predict_at : Program → Arch → Redirect
+unfoldable pub predict_at : Program → Arch → Option Place
 predict_at prog w = predict (instruction_at prog w) w.pc w.mode
 
 -- a redirect: taken and not predicted so, or predicted taken and not taken
 unfoldable pub is_redirect : Program → Arch → Bool
 is_redirect prog w =
-    cond (is_to (predict_at prog w)) (not (is_to (effect_at prog (instruction_at prog w) w).redirect))
-    (is_to (effect_at prog (instruction_at prog w) w).redirect)
+    cond (is_some (predict_at prog w)) (not (is_some (effect_at prog (instruction_at prog w) w).redirect))
+    (is_some (effect_at prog (instruction_at prog w) w).redirect)
 
 -- how many numbers below n pass a test
 unfoldable pub count : (ℕ → Bool) → ℕ → ℕ

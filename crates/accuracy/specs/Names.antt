@@ -1,6 +1,7 @@
 -- The declared types and constructors that this crate names, each under the name that the declaring crate gives it.
 pub use Rattle.isa.specs.declared.Mode.{Mode}
 pub use Rattle.isa.specs.declared.Mode.TheVariants.{Normal, Short}
+pub use Rattle.isa.specs.declared.Place.{Place}
 pub use Rattle.isa.specs.declared.Start.{Start}
 pub use Rattle.isa.specs.declared.Instruction.{Instruction}
 pub use Rattle.isa.specs.declared.Instruction.TheVariants.{Nop, Ld, St, Add, Addi, Sub, Slt, Beq, Bne, Jmp, Jal, Jr}
@@ -19,18 +20,9 @@ pub use Rattle.isa.specs.declared.RawInstr.{RawInstr}
 pub use Rattle.isa.specs.declared.RawInstr.TheVariants.{Normal as RawNormal, Short as RawShort}
 pub use Rattle.isa.specs.declared.Decoded.{Decoded}
 pub use Rattle.isa.specs.declared.Decoded.TheVariants.{Normal as DecNormal, Short as DecShort}
-pub use Rattle.isa.specs.declared.Dest.{Dest}
-pub use Rattle.isa.specs.declared.Dest.TheVariants.{None as NoDest, Reg}
-pub use Rattle.isa.specs.declared.Redirect.{Redirect}
-pub use Rattle.isa.specs.declared.Redirect.TheVariants.{Next, To}
-pub use Rattle.isa.specs.declared.NewMode.{NewMode}
-pub use Rattle.isa.specs.declared.NewMode.TheVariants.{Keep, To as ToMode}
 pub use Rattle.isa.specs.declared.Request.{Request}
-pub use Rattle.isa.specs.declared.Request.TheVariants.{None as NoRequest, Load, Store}
-pub use Rattle.isa.specs.declared.Inquiry.{Inquiry}
-pub use Rattle.isa.specs.declared.Inquiry.TheVariants.{None as NoInquiry, Of}
-pub use Rattle.isa.specs.declared.Special.{Special}
-pub use Rattle.isa.specs.declared.Special.TheVariants.{None as Unsaid, NoSuch, Word as SpecialWord}
+pub use Rattle.isa.specs.declared.Request.TheVariants.{Load, Store}
+pub use Rattle.isa.specs.declared.Exception.{Exception}
 pub use Rattle.isa.specs.declared.Operands.{Operands}
 pub use Rattle.isa.specs.declared.Effect.{Effect}
 pub use Rattle.latch.specs.declared.IfId.{IfId}
@@ -38,24 +30,13 @@ pub use Rattle.latch.specs.declared.IdEx.{IdEx}
 pub use Rattle.latch.specs.declared.ExMem.{ExMem}
 pub use Rattle.latch.specs.declared.MemWb.{MemWb}
 pub use Rattle.origin.specs.declared.Origins.{Origins}
+pub use Rattle.refusal.specs.declared.Refusal.{Refusal}
 pub use Rattle.stages.specs.declared.Taken.{Taken}
 pub use Rattle.stages.specs.declared.Move.{Move}
 pub use Rattle.stages.specs.declared.Move.TheVariants.{KeepWaiting as keep_waiting, BeginWait as begin_wait}
 pub use Rattle.stages.specs.declared.Move.TheVariants.{LoadUseStall as load_use_stall, Proceed as proceed}
 pub use Rattle.stages.specs.declared.Move.TheVariants.{Redirect as redirect}
 pub use Rattle.stages.specs.declared.Stages.{Stages}
-pub use Rattle.stages.specs.declared.Place.{Place}
 pub use Rattle.pipeline.specs.declared.PipelineCpu.{PipelineCpu}
-pub use Rattle.pipeline.specs.declared.Offer.{Offer}
-pub use Rattle.pipeline.specs.declared.Offer.TheVariants.{Nothing, Instr}
-pub use Rattle.pipeline.specs.declared.Answer.{Answer}
-pub use Rattle.pipeline.specs.declared.Answer.TheVariants.{None as NoAnswer, Word}
 pub use Rattle.pipeline.specs.declared.Given.{Given}
-pub use Rattle.pipeline.specs.declared.Outcome.TheVariants.{Refused}
-pub use Rattle.pipeline.specs.declared.Fetch.{Fetch}
-pub use Rattle.pipeline.specs.declared.Fetch.TheVariants.{None as NoFetch, From}
-pub use Rattle.pipeline.specs.declared.Shown.{Shown}
-pub use Rattle.pipeline.specs.declared.Shown.TheVariants.{None as NoOrigins, Both}
 pub use Rattle.pipeline.specs.declared.Wanted.{Wanted}
-pub use Rattle.pipeline.specs.declared.Asked.TheVariants.{Refused as NotAsked, Wants}
-pub use Rattle.pipeline.specs.declared.Executed.TheVariants.{Done}

@@ -1,43 +1,42 @@
 -- The player as far as the pipeline. Assumes nothing.
 use Prim.Native.Nat.{◌+◌, ◌-◌, ◌≤◌, suc, zero, ℕ}
-use borrow.Author.Tests.{le-ltb, ltb-false}
-use lib.Dec.{ltb}
+use borrow.Author.Tests.{le-ltb}
 use lib.ListN.{get_or, length, length-set}
 use lib.Seq.{get_or-set_same}
 use mathlib.Core.Bool.{Bool, false, not}
 use mathlib.Core.List.{List, [], ◌++◌, ◌∷◌, append_assoc, append-nil}
 use mathlib.Core.Path.{◌∙◌, ◌≡◌, ap, refl, subst, sym}
 use native.Mathlib.Omega.{arith}
+use Rattle.std.specs.Prelude.{Ok}
 use Rattle.accuracy.proofs.Accuracy.{live, start_live}
 use Rattle.accuracy.proofs.Feeding.{Fed, fed_whole}
 use Rattle.accuracy.proofs.Offers.{AllMeet, all_meet}
 use Rattle.accuracy.specs.Accuracy.{Run, after, answers, begin}
 use Rattle.accuracy.specs.Count.{path, retire_tick}
-use Rattle.isa.proofs.Bools.{split}
 use Rattle.isa.specs.Machine.{Arch, Program, arch_with, machine, program_of}
 use Rattle.pipeline.specs.Start.{fresh}
 use Rattle.player.proofs.Plays.{passes, play_halted, play_is}
 use Rattle.player.specs.Player as player
-use Rattle.player.specs.Player.{Play, ended, played, refused_play, reported, unrefused_play, values_of}
+use Rattle.player.specs.Player.{Play, checked_play, ended, played, refused_play, reported, unrefused_play, values_of}
 use Rattle.runs.proofs.Sheets.{sheet_halted_lem, sheet_halts_lem}
 use Rattle.runs.proofs.Ticks.{follows, run_retires, run_ticks}
 use Rattle.runs.specs.Run as runs
-use Rattle.runs.specs.Run.{play, ran, refused_run, run_code}
-use Rattle.sheet.proofs.Limit.{limited}
-use Rattle.sheet.specs.Sheet.{limited_code, sheet_code, sheet_source}
+use Rattle.runs.specs.Run.{checked_run, play, ran, refused_run, run_check}
+use Rattle.sheet.proofs.Limit.{by_check, limited}
+use Rattle.sheet.specs.Sheet.{limited_check, sheet_check, sheet_source}
 use Rattle.agreement.proofs.Parts.{accepted_le, after_last, fed_part, meet_part, part_length}
 use Rattle.agreement.proofs.Standing.{Stands, all_stand, live_stands}
 use Rattle.agreement.specs.Claims.{EveryList, EveryN, EveryTick, HaltedPlay, HaltedRun, Same}
 use Rattle.agreement.specs.Names.{Given, Halted, PipelineCpu, PlayHalted, Played, Ran, Start}
 
 -- a sheet and a limit that are not refused
-unrefused : (sheet : List ℕ) (n : ℕ) → sheet_code sheet ≡ 0 → n ≤ 1000000 → limited_code sheet n ≡ 0
-unfolding limited_code
+unrefused : (sheet : List ℕ) (n : ℕ) → sheet_check sheet ≡ Ok tt → n ≤ 1000000 → limited_check sheet n ≡ Ok tt
+unfolding limited_check
 unrefused sheet n a b = rw (a, le-ltb 1000000 n b)
 
-played_is : (v : Start) (sheet l table : List ℕ) (n : ℕ) → limited_code sheet n ≡ 0
+played_is : (v : Start) (sheet l table : List ℕ) (n : ℕ) → limited_check sheet n ≡ Ok tt
     → played v sheet l table n ≡ reported v (player.play (program_of (sheet_source sheet table) v) n false (arch_with v l))
-unfolding played unrefused_play
+unfolding played checked_play unrefused_play
 played_is v sheet l table n e = rw e
 
 module _ (sheet table : List ℕ) (v : Start) (len : length v.reg ≡ 32) (l : List ℕ) where
@@ -105,7 +104,7 @@ module _ (sheet table : List ℕ) (v : Start) (len : length v.reg ≡ 32) (l : L
       )
 
   -- a play and a list of ticks that stand at the same machine
-  same_by : (n k : ℕ) (r : Run) → Stands G W wide nought r k → limited_code sheet n ≡ 0
+  same_by : (n k : ℕ) (r : Run) → Stands G W wide nought r k → limited_check sheet n ≡ Ok tt
       → (player.play G n false W).arch ≡ (machine G W k).arch → length (player.play G n false W).did ≡ k
       → Same (played v sheet l table n) r.state
   unfolding reported values_of
@@ -130,7 +129,7 @@ module _ (sheet table : List ℕ) (v : Start) (len : length v.reg ≡ 32) (l : L
       omega arith
 
   -- the play with as many instructions allowed as are retired after a list of ticks
-  as_far : (ts : List Given) → (x : (k : ℕ) × Stands G W wide nought (after (begin v) ts) k) → sheet_code sheet ≡ 0
+  as_far : (ts : List Given) → (x : (k : ℕ) × Stands G W wide nought (after (begin v) ts) k) → sheet_check sheet ≡ Ok tt
       → x.0 ≤ 1000000
       → let s = (after (begin v) ts).state in
       Same (played v sheet l table s.counts.instructions_executed) s
@@ -171,20 +170,21 @@ every_n_lem sheet table v len limit l (suc N) b =
           ∙ x.now;
     }
 
-limit_of : (s : PipelineCpu) (sheet : List ℕ) (limit : ℕ) → run_code s sheet limit ≡ 0 → limited_code sheet limit ≡ 0
-unfolding run_code
-limit_of s sheet limit e = split (ltb 0 (limited_code sheet limit))
-    (λ a. rw a at e)
-    (λ a. omega (arith, ltb-false 0 (limited_code sheet limit) a))
+limit_of : (s : PipelineCpu) (sheet : List ℕ) (limit : ℕ) → run_check s sheet limit ≡ Ok tt
+    → limited_check sheet limit ≡ Ok tt
+unfolding run_check
+limit_of s sheet limit e = by_check (limited_check sheet limit)
+    (λ a. a)
+    (λ r a. absurd (let z = rw a at e in cc))
 
 -- a run that halts was not refused
 unrefused_run : (s : PipelineCpu) (sheet l table : List ℕ) (limit : ℕ) → (ran s sheet l table limit).end ≡ Halted
-    → (limited_code sheet limit ≡ 0)
+    → (limited_check sheet limit ≡ Ok tt)
     × (ran s sheet l table limit ≡ runs.reported (play (sheet_source sheet table) limit l s))
-unfolding ran refused_run run_code
-unrefused_run s sheet l table limit = split (ltb 0 (run_code s sheet limit))
-    (λ a. rw a (λ e. absurd (let z : ◌≡◌ {A = ℕ} 0 1 = cc in omega arith)))
-    (λ a. rw a (λ e. (limit_of s sheet limit (omega (arith, ltb-false 0 (run_code s sheet limit) a)), refl)))
+unfolding ran checked_run refused_run
+unrefused_run s sheet l table limit = by_check (run_check s sheet limit)
+    (λ a. rw a (λ e. (limit_of s sheet limit a, refl)))
+    (λ r a. rw a (λ e. cc))
 
 pub halted_run_lem : HaltedRun
 unfolding runs.reported reported begin
@@ -211,11 +211,11 @@ halted_run_lem sheet table v len limit l e n b c =
 
 -- a play that halts was not refused
 unrefused_play_lem : (v : Start) (sheet l table : List ℕ) (n : ℕ) → (played v sheet l table n).end ≡ PlayHalted
-    → limited_code sheet n ≡ 0
-unfolding played refused_play
-unrefused_play_lem v sheet l table n = split (ltb 0 (limited_code sheet n))
-    (λ a. rw a (λ e. absurd (let z : ◌≡◌ {A = ℕ} 0 1 = cc in omega arith)))
-    (λ a. rw a (λ e. omega (arith, ltb-false 0 (limited_code sheet n) a)))
+    → limited_check sheet n ≡ Ok tt
+unfolding played checked_play refused_play
+unrefused_play_lem v sheet l table n = by_check (limited_check sheet n)
+    (λ a e. a)
+    (λ r a. rw a (λ e. cc))
 
 pub halted_play_lem : HaltedPlay
 unfolding reported

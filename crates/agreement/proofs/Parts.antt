@@ -4,12 +4,13 @@ use lib.ListN.{length}
 use mathlib.Core.List.{List, [], ◌++◌, ◌∷◌}
 use mathlib.Core.Path.{◌≡◌, refl}
 use native.Mathlib.Omega.{arith}
+use Rattle.std.specs.Prelude.{Result, Ok, Err}
 use Rattle.accuracy.proofs.Feeding.{Fed}
 use Rattle.accuracy.proofs.Offers.{AllMeet}
 use Rattle.accuracy.specs.Accuracy.{Run, after, one, one_by}
 use Rattle.isa.specs.Machine.{Program}
-use Rattle.pipeline.specs.Tick.{Result, moved, refused, tick}
-use Rattle.agreement.specs.Names.{Given}
+use Rattle.pipeline.specs.Tick.{tick}
+use Rattle.agreement.specs.Names.{Given, PipelineCpu, Refusal}
 
 pub meet_part : (g : Program) (pre post : List Given) (r : Run) → AllMeet g r (pre ++ post) → AllMeet g r pre
 unfolding AllMeet
@@ -22,10 +23,10 @@ fed_part g [] post r l h = tt
 fed_part g (t ∷ pre) post r l h = (h.0, h.1, fed_part g pre post (one r t) h.0 h.2)
 
 -- no more ticks are accepted than there are
-one_le : (o : Result) (t : Given) (r : Run) → (one_by o t r).accepted ≤ suc r.accepted
+one_le : (o : Result PipelineCpu Refusal) (t : Given) (r : Run) → (one_by o t r).accepted ≤ suc r.accepted
 unfolding one_by
-one_le (refused c) t r = omega arith
-one_le (moved s) t r = omega arith
+one_le (Err c) t r = omega arith
+one_le (Ok s) t r = omega arith
 
 pub accepted_le : (ts : List Given) (r : Run) → (after r ts).accepted ≤ r.accepted + length ts
 unfolding after one

@@ -6,6 +6,7 @@ use mathlib.Core.Bool.{Bool, cond, false, false≢true}
 use mathlib.Core.List.{List, [], ◌∷◌}
 use mathlib.Core.Path.{◌∙◌, ◌≡◌, ap, refl, sym}
 use native.Mathlib.Omega.{arith}
+use Rattle.std.specs.Prelude.{Result, Ok, Err}
 use Rattle.accuracy.proofs.Accuracy.{Inv, Step, committed, live, over, quiet, step_by}
 use Rattle.accuracy.proofs.Feeding.{Fed}
 use Rattle.accuracy.proofs.Inv.{Live}
@@ -16,10 +17,10 @@ use Rattle.isa.proofs.Bools.{split}
 use Rattle.isa.specs.Machine.{Arch, Machine, Program, machine}
 use Rattle.pipeline.specs.Advance.{advance, move_of, next, resting}
 use Rattle.pipeline.specs.Retire.{retire}
-use Rattle.pipeline.specs.Tick.{Result, moved, refused, taken, tick}
+use Rattle.pipeline.specs.Tick.{taken, tick}
 use Rattle.stages.specs.Advance.{awake}
 use Rattle.stages.specs.Counting.{count_idle}
-use Rattle.agreement.specs.Names.{Given, PipelineCpu}
+use Rattle.agreement.specs.Names.{Given, PipelineCpu, Refusal}
 
 module _ (prog : Program) (w₀ : Arch) (len : length w₀.reg ≡ 32) (nought : get_or w₀.reg 0 0 ≡ 0) where
   -- k instructions are retired, in as many accepted ticks or more
@@ -44,14 +45,14 @@ module _ (prog : Program) (w₀ : Arch) (len : length w₀.reg ≡ 32) (nought :
   }
 
   -- a machine that has stopped rests
-  rests : (s s' : PipelineCpu) (t : Given) → s.stages.running ≡ false → tick s t ≡ moved s' → resting s ≡ s'
+  rests : (s s' : PipelineCpu) (t : Given) → s.stages.running ≡ false → tick s t ≡ Ok s' → resting s ≡ s'
   unfolding next awake
   rests s s' t e q =
       sym (ap (λ (b : Bool). cond b (advance (move_of (retire s)) (retire s) (taken t)) (resting s)) e)
       ∙ (took s t s' q).is
 
   rest_stands : (r : Run) (t : Given) (s' : PipelineCpu) (k : ℕ) → r.state.stages.running ≡ false
-      → tick r.state t ≡ moved s' → Stands r k → Stands (one_by (moved s') t r) k
+      → tick r.state t ≡ Ok s' → Stands r k → Stands (one_by (Ok s') t r) k
   unfolding one_by resting count_idle
   rest_stands r t s' k e q h =
       let z = rests r.state s' t e q in
@@ -65,26 +66,26 @@ module _ (prog : Program) (w₀ : Arch) (len : length w₀.reg ≡ 32) (nought :
       }
 
   -- one tick
-  step_stands : (r : Run) (t : Given) (o : Result) → tick r.state t ≡ o → (left : List ℕ) (k : ℕ) → Stands r k
+  step_stands : (r : Run) (t : Given) (o : Result PipelineCpu Refusal) → tick r.state t ≡ o → (left : List ℕ) (k : ℕ) → Stands r k
       → Step prog w₀ len nought r (one_by o t r) left k
       → (j : ℕ) × Stands (one_by o t r) j × Inv prog w₀ len nought (one_by o t r) left j
   unfolding one_by
-  step_stands r t (refused c) e left k h (quiet i z) = (k, h, i)
-  step_stands r t (refused c) e left k h (committed x i) =
+  step_stands r t (Err c) e left k h (quiet i z) = (k, h, i)
+  step_stands r t (Err c) e left k h (committed x i) =
       absurd (omega (arith, x.before, x.now))
-  step_stands r t (moved s) e left k h (quiet (live n₁ n₂ t₀ lv c) z) = (
+  step_stands r t (Ok s) e left k h (quiet (live n₁ n₂ t₀ lv c) z) = (
     k,
     live_stands _ t₀ left k n₁ n₂ lv (omega (arith, h.within)),
     live n₁ n₂ t₀ lv c,
   )
-  step_stands r t (moved s) e left k h (quiet (over u c) z) = (
+  step_stands r t (Ok s) e left k h (quiet (over u c) z) = (
     k,
     split r.state.stages.running
         (λ a. absurd (false≢true (sym u ∙ z a)))
         (λ a. rest_stands r t s k a e h),
     over u c,
   )
-  step_stands r t (moved s) e left k h (committed x i) = (
+  step_stands r t (Ok s) e left k h (committed x i) = (
     suc k,
     record {
       count = x.now;

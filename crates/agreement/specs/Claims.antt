@@ -1,7 +1,7 @@
 -- Read this first: what the player and the runner have in common, from one start, over one sheet, one list of load
 -- answers and one table of special registers. player has the play and its claims, runs the run and its claims,
 -- accuracy the formula (RULES 15.6).
-use Rattle.std.specs.Prelude.{◌≤◌, ℕ, length, List, ◌++◌, ◌≡◌}
+use Rattle.std.specs.Prelude.{◌≤◌, ℕ, length, List, ◌++◌, ◌≡◌, Ok}
 use Rattle.accuracy.specs.Accuracy.{Agree, AgreeSaid, after, answers, begin, offered, said}
 use Rattle.accuracy.specs.Count.{path, retire_tick}
 use Rattle.isa.specs.Machine.{arch_with, program_of}
@@ -9,7 +9,7 @@ use Rattle.isa.specs.Short.{decoded_of}
 use Rattle.pipeline.specs.Start.{fresh}
 use Rattle.player.specs.Player.{played}
 use Rattle.runs.specs.Run.{play, ran}
-use Rattle.sheet.specs.Sheet.{limited_code, offer_at, sheet_code, sheet_source, table_of}
+use Rattle.sheet.specs.Sheet.{limited_check, offer_at, sheet_check, sheet_source, table_of}
 use Rattle.agreement.specs.Names.{Given, Halted, PipelineCpu, PlayHalted, Played, Start}
 
 -- The player has done as many instructions as the pipeline has retired, and its registers, address and mode are the
@@ -23,7 +23,7 @@ pub record Same (p : Played) (s : PipelineCpu) : Type 0 where
 -- After each of a run's ticks, with N retired by then: the player with limit N.
 abbrev pub EveryTick : Type 0
 EveryTick =
-    (sheet table : List ℕ) (v : Start) → length v.reg ≡ 32 → (limit : ℕ) (l : List ℕ) → limited_code sheet limit ≡ 0
+    (sheet table : List ℕ) (v : Start) → length v.reg ≡ 32 → (limit : ℕ) (l : List ℕ) → limited_check sheet limit ≡ Ok tt
     → (pre post : List Given) → (play (sheet_source sheet table) limit l (fresh v)).ticks ≡ pre ++ post
     → let s = (after (begin v) pre).state in
     Same (played v sheet l table s.counts.instructions_executed) s
@@ -32,7 +32,7 @@ EveryTick =
 -- 15.4): the player is given the answers of the accepted ticks, and any behind them.
 abbrev pub EveryList : Type 0
 EveryList =
-    (sheet table : List ℕ) → sheet_code sheet ≡ 0 → (v : Start) → length v.reg ≡ 32 → (ts : List Given)
+    (sheet table : List ℕ) → sheet_check sheet ≡ Ok tt → (v : Start) → length v.reg ≡ 32 → (ts : List Given)
     → let r = begin v in
     Agree (λ p m. decoded_of (offer_at sheet p m)) (offered r ts) → AgreeSaid (table_of table) (said r ts)
     → let s = (after r ts).state in

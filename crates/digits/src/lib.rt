@@ -7,11 +7,11 @@
 ghost use Rattle.std.specs.Prelude.{◌%◌, ◌<◌, ◌≡◌, drop, take};
 ghost use Rattle.digits.specs.Digits.{digit, digits_of, radix};
 
-// What digits are of.
-#[derive(Clone, Copy)]
+// What digits are of, numbered by how many there are.
+#[derive(Clone, Copy, Debug, PartialEq, Eq)]
 pub enum Base {
-    Decimal,
-    Hexadecimal,
+    Decimal = 10,
+    Hexadecimal = 16,
 }
 
 impl Base {
@@ -20,10 +20,7 @@ impl Base {
     fn radix(self) -> u64
         ensures { result ≡ radix self }
     {
-        match self {
-            Base::Decimal => 10,
-            Base::Hexadecimal => 16,
-        }
+        self as u64
     }
 
     // A number's last digit.
@@ -31,14 +28,8 @@ impl Base {
     fn last_digit(self, n: u64) -> u8
         ensures { result ≡ digit (n % radix self) }
     {
-        let d = match self {
-            Base::Decimal => (n % 10) as u8,
-            Base::Hexadecimal => (n % 16) as u8,
-        };
-        if d < 10 {
-            return d + b'0';
-        }
-        d - 10 + b'a'
+        let digit = char::from_digit((n % self.radix()) as u32, 16).unwrap();
+        digit as u8
     }
 }
 
@@ -49,14 +40,14 @@ pub fn put_digits(base: Base, n: u64, out: &mut [u8; 20]) -> usize
     ensures digits { drop result out.new ≡ digits_of base n }
 {
     let radix = base.radix();
-    let mut from = 20;
     let mut rest = n;
-    while rest >= radix {
-        from -= 1;
+    for from in (0..20).rev() {
         out[from] = base.last_digit(rest);
+        if rest < radix {
+            return from;
+        }
         rest /= radix;
     }
-    from -= 1;
-    out[from] = base.last_digit(rest);
-    from
+    // A number of 64 bits has at most 20 digits.
+    unreachable!()
 }

@@ -1,14 +1,15 @@
 -- Only MFSR asks for a special register, and in supervisor mode. Assumes nothing.
 use Prim.Native.Nat.{ℕ}
+use Rattle.std.specs.Prelude.{Option, None, Some, is_some}
 use mathlib.Core.Bool.{Bool, false, false≢true, true}
 use mathlib.Core.Path.{◌≡◌, refl}
 use Rattle.isa.specs.Effect.{branches, effect_n, effect_of, effect_s, fall, gives, goes_by, goes_on, identifies}
 use Rattle.isa.specs.Effect.{inquires, jumps, links, marked, nothing, privileged, raises, reaches, resumes, sets}
 use Rattle.isa.specs.Effect.{stops}
-use Rattle.isa.specs.Inquiries.{NotMfsr, is_inquiry}
+use Rattle.isa.specs.Inquiries.{NotMfsr}
 use Rattle.isa.specs.Names.{Add, Addi, And, Beq, Bne, Cpuid, DecNormal, DecShort, Decoded, Div, Divu, Halt}
-use Rattle.isa.specs.Names.{Inquiry, Instruction, Iret, Jal, Jalr, Jalrs, Jals, Jmp, Jmps, Jr, Jrs, Ld, Ldb, Ldh}
-use Rattle.isa.specs.Names.{Ldih, Ldil, Mfsr, Mod, Mtsr, Mul, Mulh, NoInquiry, Nop, Normal, Of, Or, Short}
+use Rattle.isa.specs.Names.{Instruction, Iret, Jal, Jalr, Jalrs, Jals, Jmp, Jmps, Jr, Jrs, Ld, Ldb, Ldh}
+use Rattle.isa.specs.Names.{Ldih, Ldil, Mfsr, Mod, Mtsr, Mul, Mulh, Nop, Normal, Or, Short}
 use Rattle.isa.specs.Names.{ShortInstruction, Sla, Sll, Slt, Sltu, Sra, Srl, St, Stb, Sth, Sub, Syscall, Unknown}
 use Rattle.isa.specs.Names.{Xor, ShortAdd, ShortAddi, ShortBnz, ShortBz, ShortJal, ShortJr, ShortLd, ShortLdi, ShortMov}
 use Rattle.isa.specs.Names.{ShortRet, ShortSt, ShortUnknown}
@@ -20,9 +21,9 @@ pub record Asks (u : Bool) (i : Decoded) : Type 0 where
   pub is : i ≡ DecNormal (Mfsr rd sr)
   pub user : u ≡ false
 
-asks_n : (u : Bool) (i : Instruction) (n x y : ℕ) → is_inquiry (effect_n u i n x y).inquiry ≡ true
+asks_n : (u : Bool) (i : Instruction) (n x y : ℕ) → is_some (effect_n u i n x y).inquiry ≡ true
     → Asks u (DecNormal i)
-unfolding effect_n is_inquiry nothing goes_on goes_by marked stops resumes identifies gives reaches branches jumps links
+unfolding effect_n nothing goes_on goes_by marked stops resumes identifies gives reaches branches jumps links
     raises sets inquires privileged
 asks_n u Nop n x y e = absurd (false≢true e)
 asks_n u (Ld rd base offset) n x y e = absurd (false≢true e)
@@ -72,9 +73,9 @@ asks_n false (Mfsr rd sr) n x y e = record { rd = rd; sr = sr; is = refl; user =
 asks_n true (Mtsr rs sr) n x y e = absurd (false≢true e)
 asks_n false (Mtsr rs sr) n x y e = absurd (false≢true e)
 
-asks_s : (u : Bool) (i : ShortInstruction) (n x y : ℕ) → is_inquiry (effect_s i n x y).inquiry ≡ true
+asks_s : (u : Bool) (i : ShortInstruction) (n x y : ℕ) → is_some (effect_s i n x y).inquiry ≡ true
     → Asks u (DecShort i)
-unfolding effect_s is_inquiry goes_on goes_by marked gives reaches branches jumps links raises
+unfolding effect_s goes_on goes_by marked gives reaches branches jumps links raises
 asks_s u (ShortMov rd rs1) n x y e = absurd (false≢true e)
 asks_s u (ShortAdd rd rs1 rs2) n x y e = absurd (false≢true e)
 asks_s u (ShortAddi rd imm) n x y e = absurd (false≢true e)
@@ -88,16 +89,15 @@ asks_s u (ShortLdi rd imm) n x y e = absurd (false≢true e)
 asks_s u ShortRet n x y e = absurd (false≢true e)
 asks_s u (ShortUnknown h) n x y e = absurd (false≢true e)
 
-pub asks : (u : Bool) (i : Decoded) (p x y : ℕ) → is_inquiry (effect_of u i p x y).inquiry ≡ true → Asks u i
+pub asks : (u : Bool) (i : Decoded) (p x y : ℕ) → is_some (effect_of u i p x y).inquiry ≡ true → Asks u i
 unfolding effect_of
 asks u (DecNormal i) p x y e = asks_n u i (fall p Normal) x y e
 asks u (DecShort i) p x y e = asks_s u i (fall p Short) x y e
 
-none_by : (q : Inquiry) → (is_inquiry q ≡ true → ⊥) → q ≡ NoInquiry
-unfolding is_inquiry
-none_by NoInquiry h = refl
-none_by (Of n) h = absurd (h refl)
+none_by : (q : Option ℕ) → (is_some q ≡ true → ⊥) → q ≡ None
+none_by None h = refl
+none_by (Some n) h = absurd (h refl)
 
 -- any other instruction asks for none
-pub asks_none : (u : Bool) (i : Decoded) (p x y : ℕ) → NotMfsr i → (effect_of u i p x y).inquiry ≡ NoInquiry
+pub asks_none : (u : Bool) (i : Decoded) (p x y : ℕ) → NotMfsr i → (effect_of u i p x y).inquiry ≡ None
 asks_none u i p x y h = none_by _ (λ e. let a = asks u i p x y e in h a.rd a.sr a.is)

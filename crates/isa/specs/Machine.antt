@@ -1,13 +1,13 @@
 -- The one-at-a-time machine: one step does the instruction at its address and mode.
-use Rattle.std.specs.Prelude.{suc, zero, ℕ, replicate, set, Bool, ◌&&◌, ◌||◌, cond, false, not, true, List, [], ◌++◌}
-use Rattle.std.specs.Prelude.{◌∷◌}
+use Rattle.std.specs.Prelude.{suc, zero, ℕ, replicate, set, Bool, ◌&&◌, ◌||◌, cond, false, not, true, List, [], ◌++◌, Option, None}
+use Rattle.std.specs.Prelude.{◌∷◌, is_some}
 use Rattle.word.specs.Words.{cut32}
 use Rattle.isa.specs.Effect.{effect_of, fall}
 use Rattle.isa.specs.Inquiries.{fill, look_up}
-use Rattle.isa.specs.Names.{Decoded, Dest, Effect, Load, Mode, NoDest, Normal, RawInstr, Request, Special, Start}
+use Rattle.isa.specs.Names.{Decoded, Effect, Load, Mode, Normal, RawInstr, Request, Start}
 use Rattle.isa.specs.Names.{Store}
 use Rattle.isa.specs.Operands.{operands_of}
-use Rattle.isa.specs.Redirects.{is_exception, is_mtsr, mode_or, target_or}
+use Rattle.isa.specs.Redirects.{mode_or, target_or}
 use Rattle.isa.specs.Registers.{read_reg, write_cpuid, write_reg}
 use Rattle.isa.specs.Short.{decoded_of}
 
@@ -25,17 +25,17 @@ pub record Program : Type 0 where
   pub user : Bool
   pub features : ℕ
   pub take : ℕ → ℕ → ℕ
-  pub table : ℕ → Special
+  pub table : ℕ → Option (Option ℕ)
 
 -- a program by its instructions and special registers, from a start's values; its loads take their answers whole, at
 -- every width
-abbrev pub whole_program : Start → (ℕ → Mode → Decoded) → (ℕ → Special) → Program
+abbrev pub whole_program : Start → (ℕ → Mode → Decoded) → (ℕ → Option (Option ℕ)) → Program
 whole_program v f t = record { instruction = f; user = v.user; features = v.features; take = λ w x. x; table = t }
 
 -- what a run is offered from: the instruction of each address and mode, and what is said of each special register
 pub record Source : Type 0 where
   pub raw : ℕ → Mode → RawInstr
-  pub table : ℕ → Special
+  pub table : ℕ → Option (Option ℕ)
 
 -- the program of a source, from a start's values
 unfoldable pub program_of : Source → Start → Program
@@ -93,8 +93,8 @@ value_at g i w =
     (effect_at g i w).alu.value
 
 -- the destination, where the instruction writes one
-unfoldable pub dest_of : Effect → Dest → Dest
-dest_of e d = cond e.alu.writes d NoDest
+unfoldable pub dest_of : Effect → Option ℕ → Option ℕ
+dest_of e d = cond e.alu.writes d None
 
 -- instruction i done
 unfoldable pub step_by : Program → Decoded → Arch → Arch
@@ -113,7 +113,7 @@ step_by g i w = record {
 
 -- an instruction that raises an exception or is MTSR or IRET
 unfoldable pub is_barred : Effect → Bool
-is_barred e = is_exception e.marks.exception || (is_mtsr e.marks.mtsr || e.marks.iret)
+is_barred e = is_some e.marks.exception || (is_some e.marks.mtsr || e.marks.iret)
 
 -- an instruction that stops the machine undone: a barred one, or a load with no answer left
 unfoldable pub stops_at : Program → Decoded → Arch → Bool

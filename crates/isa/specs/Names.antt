@@ -18,23 +18,12 @@ pub use Rattle.isa.specs.declared.RawInstr.{RawInstr}
 pub use Rattle.isa.specs.declared.RawInstr.TheVariants.{Normal as RawNormal, Short as RawShort}
 pub use Rattle.isa.specs.declared.Decoded.{Decoded}
 pub use Rattle.isa.specs.declared.Decoded.TheVariants.{Normal as DecNormal, Short as DecShort}
-pub use Rattle.isa.specs.declared.Dest.{Dest}
-pub use Rattle.isa.specs.declared.Dest.TheVariants.{None as NoDest, Reg}
-pub use Rattle.isa.specs.declared.Redirect.{Redirect}
-pub use Rattle.isa.specs.declared.Redirect.TheVariants.{Next, To}
-pub use Rattle.isa.specs.declared.NewMode.{NewMode}
-pub use Rattle.isa.specs.declared.NewMode.TheVariants.{Keep, To as ToMode}
+pub use Rattle.isa.specs.declared.Place.{Place}
 pub use Rattle.isa.specs.declared.Request.{Request}
-pub use Rattle.isa.specs.declared.Request.TheVariants.{None as NoRequest, Load, Store}
+pub use Rattle.isa.specs.declared.Request.TheVariants.{Load, Store}
 pub use Rattle.isa.specs.declared.Exception.{Exception}
-pub use Rattle.isa.specs.declared.Exception.TheVariants.{None as NoException, PrivilegedInstruction}
-pub use Rattle.isa.specs.declared.Exception.TheVariants.{IllegalInstruction, Syscall as SyscallException}
-pub use Rattle.isa.specs.declared.Mtsr.{Mtsr as MtsrWrite}
-pub use Rattle.isa.specs.declared.Mtsr.TheVariants.{None as NoMtsr, Write}
-pub use Rattle.isa.specs.declared.Inquiry.{Inquiry}
-pub use Rattle.isa.specs.declared.Inquiry.TheVariants.{None as NoInquiry, Of}
-pub use Rattle.isa.specs.declared.Special.{Special}
-pub use Rattle.isa.specs.declared.Special.TheVariants.{None as Unsaid, NoSuch, Word as SpecialWord}
+pub use Rattle.isa.specs.declared.Exception.TheVariants.{PrivilegedInstruction, IllegalInstruction}
+pub use Rattle.isa.specs.declared.Exception.TheVariants.{Syscall as SyscallException}
 pub use Rattle.isa.specs.declared.Operands.{Operands}
 pub use Rattle.isa.specs.declared.AluResult.{AluResult}
 pub use Rattle.isa.specs.declared.Access.{Access}

@@ -1,9 +1,9 @@
 -- What an instruction names: sources, destination, load or store, latency, a conditional branch's offset.
-use Rattle.std.specs.Prelude.{ℕ, nat_lt, ℤ, Bool, ◌&&◌, cond, false, true}
+use Rattle.std.specs.Prelude.{ℕ, nat_lt, ℤ, Bool, ◌&&◌, cond, false, true, Option, None, Some}
 use Rattle.word.specs.Words.{word_of}
-use Rattle.isa.specs.Names.{Add, Addi, And, Beq, Bne, Cpuid, DecNormal, DecShort, Decoded, Dest, Div, Divu, Halt}
+use Rattle.isa.specs.Names.{Add, Addi, And, Beq, Bne, Cpuid, DecNormal, DecShort, Decoded, Div, Divu, Halt}
 use Rattle.isa.specs.Names.{Instruction, Iret, Jal, Jalr, Jalrs, Jals, Jmp, Jmps, Jr, Jrs, Ld, Ldb, Ldh, Ldih}
-use Rattle.isa.specs.Names.{Ldil, Mfsr, Mod, Mtsr, Mul, Mulh, NoDest, Nop, Operands, Or, Reg, ShortInstruction}
+use Rattle.isa.specs.Names.{Ldil, Mfsr, Mod, Mtsr, Mul, Mulh, Nop, Operands, Or, ShortInstruction}
 use Rattle.isa.specs.Names.{Sla, Sll, Slt, Sltu, Sra, Srl, St, Stb, Sth, Sub, Syscall, Unknown, Xor, ShortAdd}
 use Rattle.isa.specs.Names.{ShortAddi}
 use Rattle.isa.specs.Names.{ShortBnz, ShortBz, ShortJal, ShortJr, ShortLd, ShortLdi, ShortMov, ShortRet, ShortSt}
@@ -14,7 +14,7 @@ unfoldable pub gpr : ℕ → ℕ
 gpr r = cond (nat_lt r 15) r 31
 
 -- Operands that are no load, no store and no branch, with a latency.
-unfoldable pub plain : ℕ → ℕ → ℕ → Dest → ℕ → Operands
+unfoldable pub plain : ℕ → ℕ → ℕ → Option ℕ → Option ℕ → Operands
 plain a b n d l = record {
   src_a = a;
   src_b = b;
@@ -23,29 +23,28 @@ plain a b n d l = record {
   is_load = false;
   is_store = false;
   latency = l;
-  is_branch = false;
-  offset = 0;
+  branch = None;
 }
 
 -- no source, no destination
 unfoldable pub bare : Operands
-bare = plain 0 0 0 NoDest 0
+bare = plain 0 0 0 None None
 
 -- no source, destination d
 unfoldable pub writes : ℕ → Operands
-writes d = plain 0 0 0 (Reg d) 0
+writes d = plain 0 0 0 (Some d) None
 
 -- source a, destination d
 unfoldable pub unary : ℕ → ℕ → Operands
-unary d a = plain a 0 1 (Reg d) 0
+unary d a = plain a 0 1 (Some d) None
 
 -- sources a and b, destination d, latency l
-unfoldable pub binary : ℕ → ℕ → ℕ → ℕ → Operands
-binary l d a b = plain a b 2 (Reg d) l
+unfoldable pub binary : Option ℕ → ℕ → ℕ → ℕ → Operands
+binary l d a b = plain a b 2 (Some d) l
 
 -- source a only
 unfoldable pub reads : ℕ → Operands
-reads a = plain a 0 1 NoDest 0
+reads a = plain a 0 1 None None
 
 -- a load from base a into d
 unfoldable pub loading : ℕ → ℕ → Operands
@@ -53,12 +52,11 @@ loading d a = record {
   src_a = a;
   src_b = 0;
   n_srcs = 1;
-  dest = Reg d;
+  dest = Some d;
   is_load = true;
   is_store = false;
-  latency = 0;
-  is_branch = false;
-  offset = 0;
+  latency = None;
+  branch = None;
 }
 
 -- a store of register b to address or base a
@@ -67,12 +65,11 @@ storing a b = record {
   src_a = a;
   src_b = b;
   n_srcs = 2;
-  dest = NoDest;
+  dest = None;
   is_load = false;
   is_store = true;
-  latency = 0;
-  is_branch = false;
-  offset = 0;
+  latency = None;
+  branch = None;
 }
 
 -- a conditional branch on n sources
@@ -81,12 +78,11 @@ branching a b n o = record {
   src_a = a;
   src_b = b;
   n_srcs = n;
-  dest = NoDest;
+  dest = None;
   is_load = false;
   is_store = false;
-  latency = 0;
-  is_branch = true;
-  offset = word_of o;
+  latency = None;
+  branch = Some (word_of o);
 }
 
 -- the latency of MUL and MULH
@@ -102,10 +98,10 @@ unfoldable pub operands_n : Instruction → Operands
 operands_n Nop = bare
 operands_n (Ld rd base offset) = loading rd base
 operands_n (St rd base offset) = storing base rd
-operands_n (Add rd rs1 rs2) = binary 0 rd rs1 rs2
+operands_n (Add rd rs1 rs2) = binary None rd rs1 rs2
 operands_n (Addi rd rs1 imm) = unary rd rs1
-operands_n (Sub rd rs1 rs2) = binary 0 rd rs1 rs2
-operands_n (Slt rd rs1 rs2) = binary 0 rd rs1 rs2
+operands_n (Sub rd rs1 rs2) = binary None rd rs1 rs2
+operands_n (Slt rd rs1 rs2) = binary None rd rs1 rs2
 operands_n (Beq rs1 rs2 offset) = branching rs1 rs2 2 offset
 operands_n (Bne rs1 rs2 offset) = branching rs1 rs2 2 offset
 operands_n (Jmp offset) = bare
@@ -118,19 +114,19 @@ operands_n (Jalr rd) = unary 31 rd
 operands_n (Jalrs rd) = unary 31 rd
 operands_n Cpuid = bare
 operands_n Halt = bare
-operands_n (And rd rs1 rs2) = binary 0 rd rs1 rs2
-operands_n (Or rd rs1 rs2) = binary 0 rd rs1 rs2
-operands_n (Xor rd rs1 rs2) = binary 0 rd rs1 rs2
-operands_n (Sll rd rs1 rs2) = binary 0 rd rs1 rs2
-operands_n (Srl rd rs1 rs2) = binary 0 rd rs1 rs2
-operands_n (Sla rd rs1 rs2) = binary 0 rd rs1 rs2
-operands_n (Sra rd rs1 rs2) = binary 0 rd rs1 rs2
-operands_n (Sltu rd rs1 rs2) = binary 0 rd rs1 rs2
-operands_n (Mul rd rs1 rs2) = binary mul_latency rd rs1 rs2
-operands_n (Div rd rs1 rs2) = binary div_latency rd rs1 rs2
-operands_n (Mod rd rs1 rs2) = binary div_latency rd rs1 rs2
-operands_n (Mulh rd rs1 rs2) = binary mul_latency rd rs1 rs2
-operands_n (Divu rd rs1 rs2) = binary div_latency rd rs1 rs2
+operands_n (And rd rs1 rs2) = binary None rd rs1 rs2
+operands_n (Or rd rs1 rs2) = binary None rd rs1 rs2
+operands_n (Xor rd rs1 rs2) = binary None rd rs1 rs2
+operands_n (Sll rd rs1 rs2) = binary None rd rs1 rs2
+operands_n (Srl rd rs1 rs2) = binary None rd rs1 rs2
+operands_n (Sla rd rs1 rs2) = binary None rd rs1 rs2
+operands_n (Sra rd rs1 rs2) = binary None rd rs1 rs2
+operands_n (Sltu rd rs1 rs2) = binary None rd rs1 rs2
+operands_n (Mul rd rs1 rs2) = binary (Some mul_latency) rd rs1 rs2
+operands_n (Div rd rs1 rs2) = binary (Some div_latency) rd rs1 rs2
+operands_n (Mod rd rs1 rs2) = binary (Some div_latency) rd rs1 rs2
+operands_n (Mulh rd rs1 rs2) = binary (Some mul_latency) rd rs1 rs2
+operands_n (Divu rd rs1 rs2) = binary (Some div_latency) rd rs1 rs2
 operands_n (Ldb rd base offset) = loading rd base
 operands_n (Ldh rd base offset) = loading rd base
 operands_n (Stb rd base offset) = storing base rd
@@ -146,7 +142,7 @@ operands_n (Mtsr rs sr) = reads rs
 -- Short ST: rd is the address, rs1 the value. RET reads no register.
 unfoldable pub operands_s : ShortInstruction → Operands
 operands_s (ShortMov rd rs1) = unary (gpr rd) (gpr rs1)
-operands_s (ShortAdd rd rs1 rs2) = binary 0 (gpr rd) (gpr rs1) (gpr rs2)
+operands_s (ShortAdd rd rs1 rs2) = binary None (gpr rd) (gpr rs1) (gpr rs2)
 operands_s (ShortAddi rd imm) = unary (gpr rd) (gpr rd)
 operands_s (ShortLd rd rs1) = loading (gpr rd) (gpr rs1)
 operands_s (ShortSt rd rs1) = storing (gpr rd) (gpr rs1)
@@ -164,9 +160,9 @@ operands_of (DecNormal i) = operands_n i
 operands_of (DecShort i) = operands_s i
 
 -- a destination below 32, or none
-unfoldable pub ok_dest : Dest → Bool
-ok_dest NoDest = true
-ok_dest (Reg d) = nat_lt d 32
+unfoldable pub ok_dest : Option ℕ → Bool
+ok_dest None = true
+ok_dest (Some d) = nat_lt d 32
 
 -- every register that is named is below 32
 unfoldable pub ok_operands : Operands → Bool

@@ -1,22 +1,22 @@
--- The refusal of an instruction: 1, a register above 31; 0 for none. And the mode that it is of.
-use Rattle.std.specs.Prelude.{ℕ, Bool, cond, false, true}
+-- Instructions whose registers are below 32, and the mode that an instruction is of.
+use Rattle.std.specs.Prelude.{Bool, false, true}
 use Rattle.isa.specs.Names.{DecNormal, DecShort, Decoded, Instruction, Mode, Normal, RawInstr, RawNormal}
 use Rattle.isa.specs.Names.{RawShort, Short}
 use Rattle.isa.specs.Operands.{ok_operands, operands_n}
 
--- the code of a Normal instruction
-unfoldable pub instruction_code : Instruction → ℕ
-instruction_code i = cond (ok_operands (operands_n i)) 0 1
+-- a Normal instruction whose registers are below 32
+unfoldable pub ok_instruction : Instruction → Bool
+ok_instruction i = ok_operands (operands_n i)
 
--- the code of what a fetch brings; a halfword has none
-unfoldable pub raw_code : RawInstr → ℕ
-raw_code (RawNormal i) = instruction_code i
-raw_code (RawShort h) = 0
+-- the same of what a fetch brings; the register numbers of a halfword are not tested
+unfoldable pub ok_raw : RawInstr → Bool
+ok_raw (RawNormal i) = ok_instruction i
+ok_raw (RawShort h) = true
 
--- the code of a decoded instruction; the register numbers of a Short one are not tested
-unfoldable pub decoded_code : Decoded → ℕ
-decoded_code (DecNormal i) = instruction_code i
-decoded_code (DecShort i) = 0
+-- the same of a decoded instruction; the register numbers of a Short one are not tested
+unfoldable pub ok_decoded : Decoded → Bool
+ok_decoded (DecNormal i) = ok_instruction i
+ok_decoded (DecShort i) = true
 
 -- what a fetch brings is an instruction of a mode
 unfoldable pub is_of : Mode → RawInstr → Bool

@@ -1,6 +1,5 @@
 -- The 32 registers, as a list. R0 reads as 0.
-use Rattle.std.specs.Prelude.{ℕ, ◌==◌, nat_lt, slice_index, set, Bool, ◌&&◌, cond, false, true, List}
-use Rattle.isa.specs.Names.{Dest, NoDest, Reg}
+use Rattle.std.specs.Prelude.{ℕ, ◌==◌, nat_lt, slice_index, set, Bool, ◌&&◌, cond, false, true, List, Option, None, Some}
 
 -- R1 to R31, the registers that can be written
 unfoldable pub is_reg : ℕ → Bool
@@ -15,9 +14,9 @@ unfoldable pub put_reg : ℕ → ℕ → List ℕ → List ℕ
 put_reg d v rs = cond (is_reg d) (set rs d v) rs
 
 -- a destination gets the word v, unless it is R0
-unfoldable pub write_reg : Dest → ℕ → List ℕ → List ℕ
-write_reg NoDest v rs = rs
-write_reg (Reg d) v rs = put_reg d v rs
+unfoldable pub write_reg : Option ℕ → ℕ → List ℕ → List ℕ
+write_reg None v rs = rs
+write_reg (Some d) v rs = put_reg d v rs
 
 -- the processor's name, which CPUID gives
 abbrev pub processor_name : ℕ
@@ -29,11 +28,6 @@ write_cpuid false features rs = rs
 write_cpuid true features rs = set (set rs 1 processor_name) 2 features
 
 -- whether a destination is register r
-unfoldable pub is_dest : Dest → ℕ → Bool
-is_dest NoDest r = false
-is_dest (Reg d) r = d == r
-
--- whether a destination is named
-unfoldable pub is_named : Dest → Bool
-is_named NoDest = false
-is_named (Reg d) = true
+unfoldable pub is_dest : Option ℕ → ℕ → Bool
+is_dest None r = false
+is_dest (Some d) r = d == r

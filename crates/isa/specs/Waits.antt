@@ -1,11 +1,11 @@
 -- Multiplies and divides by their names; waits, used loads and prediction, read off an instruction's operands.
-use Rattle.std.specs.Prelude.{◌-◌, ◌^◌, ℕ, ◌==◌, nat_lt, Bool, ◌&&◌, ◌||◌, cond, false, not, true}
+use Rattle.std.specs.Prelude.{◌-◌, ◌^◌, ℕ, ◌==◌, nat_lt, Bool, ◌&&◌, ◌||◌, cond, false, not, true, Option, None, Some}
 use Rattle.word.specs.Words.{add32}
 use Rattle.isa.specs.Effect.{fall}
-use Rattle.isa.specs.Names.{Add, Addi, And, Beq, Bne, Cpuid, DecNormal, DecShort, Decoded, Dest, Div, Divu, Halt}
+use Rattle.isa.specs.Names.{Add, Addi, And, Beq, Bne, Cpuid, DecNormal, DecShort, Decoded, Div, Divu, Halt}
 use Rattle.isa.specs.Names.{Instruction, Iret, Jal, Jalr, Jalrs, Jals, Jmp, Jmps, Jr, Jrs, Ld, Ldb, Ldh, Ldih}
-use Rattle.isa.specs.Names.{Ldil, Mfsr, Mod, Mode, Mtsr, Mul, Mulh, Next, NoDest, Nop, Operands, Or, Redirect}
-use Rattle.isa.specs.Names.{Reg, Sla, Sll, Slt, Sltu, Sra, Srl, St, Stb, Sth, Sub, Syscall, To, Unknown, Xor}
+use Rattle.isa.specs.Names.{Ldil, Mfsr, Mod, Mode, Mtsr, Mul, Mulh, Nop, Operands, Or, Place}
+use Rattle.isa.specs.Names.{Sla, Sll, Slt, Sltu, Sra, Srl, St, Stb, Sth, Sub, Syscall, Unknown, Xor}
 use Rattle.isa.specs.Operands.{operands_of}
 
 -- m for the multiplies MUL and MULH, d for the divides DIV, DIVU and MOD, o for every other instruction
@@ -66,14 +66,19 @@ unfoldable pub is_div : Decoded → Bool
 is_div (DecNormal i) = slow_of false true false i
 is_div (DecShort i) = false
 
+-- one less than a latency, 0 where there is none
+unfoldable pub wait_of : Option ℕ → ℕ
+wait_of None = 0
+wait_of (Some l) = l - 1
+
 -- the ticks that an instruction waits in EX: one less than its latency
 unfoldable pub waits : Decoded → ℕ
-waits i = (operands_of i).latency - 1
+waits i = wait_of (operands_of i).latency
 
 -- a destination other than R0 that is one of two sources
-unfoldable pub is_used : Dest → ℕ → ℕ → Bool
-is_used NoDest a b = false
-is_used (Reg d) a b = not (d == 0) && (d == a || d == b)
+unfoldable pub is_used : Option ℕ → ℕ → ℕ → Bool
+is_used None a b = false
+is_used (Some d) a b = not (d == 0) && (d == a || d == b)
 
 -- a load that the next instruction uses: i is a load, and j names its destination as a source
 unfoldable pub is_used_load : Decoded → Decoded → Bool
@@ -84,10 +89,16 @@ is_used_load i j =
 unfoldable pub is_negative : ℕ → Bool
 is_negative w = not (nat_lt w (2 ^ 31))
 
--- the prediction: a conditional branch with negative offset is taken, in the mode m of its latch; no other is
-unfoldable pub predict_by : Operands → ℕ → Mode → Redirect
-predict_by o p m = cond (o.is_branch && is_negative o.offset) (To (add32 (fall p m) o.offset) m) Next
+-- where a conditional branch with offset z leads, at address p in the mode m of its latch, if z is negative; else, and
+-- where there is no such branch, nowhere
+unfoldable pub back_to : Option ℕ → ℕ → Mode → Option Place
+back_to None p m = None
+back_to (Some z) p m = cond (is_negative z) (Some (record { pc = add32 (fall p m) z; mode = m })) None
+
+-- the prediction: a conditional branch with negative offset is taken; no other is
+unfoldable pub predict_by : Operands → ℕ → Mode → Option Place
+predict_by o p m = back_to o.branch p m
 
 -- the same of a decoded instruction
-unfoldable pub predict : Decoded → ℕ → Mode → Redirect
+unfoldable pub predict : Decoded → ℕ → Mode → Option Place
 predict i p m = predict_by (operands_of i) p m

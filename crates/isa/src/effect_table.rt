@@ -5,11 +5,9 @@ ghost use Rattle.isa.specs.Effect.{branches, effect_n, effect_of, effect_s, give
 ghost use Rattle.isa.specs.Effect.{inquires, jumps, links, marked, no_access, no_marks, no_result, nothing};
 ghost use Rattle.isa.specs.Effect.{privileged, raises, reaches, resumes, sets, stops, written};
 
-use crate::encoding::{byte, half, widen};
-use crate::redirects::redirect_if;
 use crate::{
-    Access, AluResult, Decoded, Effect, Exception, Inquiry, Instruction, Marks, Mode, Mtsr,
-    NewMode, Redirect, ShortInstruction,
+    Access, AluResult, Decoded, Effect, Exception, Instruction, Marks, Mode, Mtsr, Place,
+    ShortInstruction,
 };
 
 // The word `v` for the destination; `always`: asked for even where no destination is named.
@@ -58,8 +56,8 @@ fn no_marks() -> Marks
         halt: false,
         iret: false,
         cpuid: false,
-        exception: Exception::None,
-        mtsr: Mtsr::None,
+        exception: None,
+        mtsr: None,
     }
 }
 
@@ -71,16 +69,16 @@ fn goes_on(alu: AluResult, access: Access) -> Effect
     Effect {
         alu,
         access,
-        redirect: Redirect::Next,
-        branch_new_mode: NewMode::Keep,
+        redirect: None,
+        branch_new_mode: None,
         marks: no_marks(),
-        inquiry: Inquiry::None,
+        inquiry: None,
     }
 }
 
 // A result, and the way `redirect`; `n`: the mode that it changes to.
 #[tactic(auto, unfolding(crate::specs::Effect::goes_by))]
-fn goes_by(alu: AluResult, redirect: Redirect, n: NewMode) -> Effect
+fn goes_by(alu: AluResult, redirect: Option<Place>, n: Option<Mode>) -> Effect
     ensures { result ≡ goes_by alu redirect n }
 {
     Effect {
@@ -89,7 +87,7 @@ fn goes_by(alu: AluResult, redirect: Redirect, n: NewMode) -> Effect
         redirect,
         branch_new_mode: n,
         marks: no_marks(),
-        inquiry: Inquiry::None,
+        inquiry: None,
     }
 }
 
@@ -101,10 +99,10 @@ fn marked(marks: Marks) -> Effect
     Effect {
         alu: no_result(),
         access: no_access(),
-        redirect: Redirect::Next,
-        branch_new_mode: NewMode::Keep,
+        redirect: None,
+        branch_new_mode: None,
         marks,
-        inquiry: Inquiry::None,
+        inquiry: None,
     }
 }
 
@@ -148,24 +146,27 @@ fn reaches(l: bool, w: u8, a: u32, v: u32) -> Effect
 fn branches(c: bool, n: u32, o: i16, m: Mode) -> Effect
     ensures { result ≡ branches c (offset32 n o) m }
 {
-    let way = redirect_if(c, word::add_signed(n, o), m);
-    goes_by(no_result(), way, NewMode::Keep)
+    let target = Place {
+        pc: word::add_signed(n, o),
+        mode: m,
+    };
+    goes_by(no_result(), c.then_some(target), None)
 }
 
-// A jump to `q` in mode `m`; `n`: the mode that it changes to.
+// A jump to `q` in mode `m`; `n`: the mode that it changes to. Address and mode come apart from the table's rows.
 #[tactic(auto, unfolding(crate::specs::Effect::jumps))]
-fn jumps(q: u32, m: Mode, n: NewMode) -> Effect
+fn jumps(q: u32, m: Mode, n: Option<Mode>) -> Effect
     ensures { result ≡ jumps q m n }
 {
-    goes_by(no_result(), Redirect::To(q, m), n)
+    goes_by(no_result(), Some(Place { pc: q, mode: m }), n)
 }
 
 // A jump that leaves the address `v` of the next instruction.
 #[tactic(auto, unfolding(crate::specs::Effect::links))]
-fn links(v: u32, q: u32, m: Mode, n: NewMode) -> Effect
+fn links(v: u32, q: u32, m: Mode, n: Option<Mode>) -> Effect
     ensures { result ≡ links v q m n }
 {
-    goes_by(written(v, true), Redirect::To(q, m), n)
+    goes_by(written(v, true), Some(Place { pc: q, mode: m }), n)
 }
 
 // HALT.
@@ -173,9 +174,10 @@ fn links(v: u32, q: u32, m: Mode, n: NewMode) -> Effect
 fn stops() -> Effect
     ensures { result ≡ stops }
 {
-    let mut marks = no_marks();
-    marks.halt = true;
-    marked(marks)
+    marked(Marks {
+        halt: true,
+        ..no_marks()
+    })
 }
 
 // IRET.
@@ -183,9 +185,10 @@ fn stops() -> Effect
 fn resumes() -> Effect
     ensures { result ≡ resumes }
 {
-    let mut marks = no_marks();
-    marks.iret = true;
-    marked(marks)
+    marked(Marks {
+        iret: true,
+        ..no_marks()
+    })
 }
 
 // CPUID.
@@ -193,51 +196,42 @@ fn resumes() -> Effect
 fn identifies() -> Effect
     ensures { result ≡ identifies }
 {
-    let mut marks = no_marks();
-    marks.cpuid = true;
-    marked(marks)
+    marked(Marks {
+        cpuid: true,
+        ..no_marks()
+    })
 }
 
 // An exception.
-#[tactic(auto, unfolding(crate::specs::Effect::raises))]
+#[tactic(auto, unfolding(crate::specs::Effect::raises, crate::specs::Effect::no_marks))]
 pub fn raises(e: Exception) -> Effect
     ensures { result ≡ raises e }
 {
     marked(Marks {
-        halt: false,
-        iret: false,
-        cpuid: false,
-        exception: e,
-        mtsr: Mtsr::None,
+        exception: Some(e),
+        ..no_marks()
     })
 }
 
 // MTSR: word `v` for special register `sr`.
-#[tactic(auto, unfolding(crate::specs::Effect::sets))]
+#[tactic(auto, unfolding(crate::specs::Effect::sets, crate::specs::Effect::no_marks))]
 fn sets(sr: u16, v: u32) -> Effect
     ensures { result ≡ sets sr v }
 {
     marked(Marks {
-        halt: false,
-        iret: false,
-        cpuid: false,
-        exception: Exception::None,
-        mtsr: Mtsr::Write(sr, v),
+        mtsr: Some(Mtsr { sr, value: v }),
+        ..no_marks()
     })
 }
 
 // MFSR: the word of special register `sr` is asked for, and nothing else is done.
-#[tactic(auto, unfolding(crate::specs::Effect::inquires))]
+#[tactic(auto, unfolding(crate::specs::Effect::inquires, crate::specs::Effect::nothing, crate::specs::Effect::marked))]
 fn inquires(sr: u16) -> Effect
     ensures { result ≡ inquires sr }
 {
     Effect {
-        alu: no_result(),
-        access: no_access(),
-        redirect: Redirect::Next,
-        branch_new_mode: NewMode::Keep,
-        marks: no_marks(),
-        inquiry: Inquiry::Of(sr),
+        inquiry: Some(sr),
+        ..nothing()
     }
 }
 
@@ -267,33 +261,29 @@ impl Instruction {
             Instruction::Sub { .. } => gives(word::sub(a, b)),
             Instruction::Slt { .. } => gives(word::slt(a, b)),
             Instruction::Beq { offset, .. } => branches(a == b, n, offset, Mode::Normal),
-            Instruction::Bne { offset, .. } => branches(!(a == b), n, offset, Mode::Normal),
-            Instruction::Jmp { offset } => jumps(
-                word::add_signed(n, offset),
-                Mode::Normal,
-                NewMode::Keep,
-            ),
+            Instruction::Bne { offset, .. } => branches(a != b, n, offset, Mode::Normal),
+            Instruction::Jmp { offset } => jumps(word::add_signed(n, offset), Mode::Normal, None),
             Instruction::Jal { offset } => links(
                 n,
                 word::add_signed(n, offset),
                 Mode::Normal,
-                NewMode::Keep,
+                None,
             ),
-            Instruction::Jr { .. } => jumps(a, Mode::Normal, NewMode::Keep),
+            Instruction::Jr { .. } => jumps(a, Mode::Normal, None),
             Instruction::Jmps { offset } => jumps(
                 word::add_signed(n, offset),
                 Mode::Short,
-                NewMode::To(Mode::Short),
+                Some(Mode::Short),
             ),
             Instruction::Jals { offset } => links(
                 n,
                 word::add_signed(n, offset),
                 Mode::Short,
-                NewMode::To(Mode::Short),
+                Some(Mode::Short),
             ),
-            Instruction::Jrs { .. } => jumps(a, Mode::Short, NewMode::To(Mode::Short)),
-            Instruction::Jalr { .. } => links(n, a, Mode::Normal, NewMode::Keep),
-            Instruction::Jalrs { .. } => links(n, a, Mode::Short, NewMode::To(Mode::Short)),
+            Instruction::Jrs { .. } => jumps(a, Mode::Short, Some(Mode::Short)),
+            Instruction::Jalr { .. } => links(n, a, Mode::Normal, None),
+            Instruction::Jalrs { .. } => links(n, a, Mode::Short, Some(Mode::Short)),
             Instruction::Cpuid => identifies(),
             Instruction::Halt => privileged(user, stops()),
             Instruction::And { .. } => gives(word::and(a, b)),
@@ -313,8 +303,8 @@ impl Instruction {
             Instruction::Ldh { offset, .. } => reaches(true, 2, word::add_signed(a, offset), 0),
             Instruction::Stb { offset, .. } => reaches(false, 1, word::add_signed(a, offset), b),
             Instruction::Sth { offset, .. } => reaches(false, 2, word::add_signed(a, offset), b),
-            Instruction::Ldil { imm, .. } => gives(word::ldil(a, half(imm))),
-            Instruction::Ldih { imm, .. } => gives(word::ldih(a, half(imm))),
+            Instruction::Ldil { imm, .. } => gives(word::ldil(a, u32::from(imm))),
+            Instruction::Ldih { imm, .. } => gives(word::ldih(a, u32::from(imm))),
             Instruction::Unknown(_, _) => raises(Exception::IllegalInstruction),
             Instruction::Iret => privileged(user, resumes()),
             Instruction::Syscall { imm } => raises(Exception::Syscall(imm)),
@@ -333,25 +323,30 @@ impl ShortInstruction {
         match self {
             ShortInstruction::Mov { .. } => gives(a),
             ShortInstruction::Add { .. } => gives(word::add(a, b)),
-            ShortInstruction::Addi { imm, .. } => gives(word::add_signed(a, widen(imm))),
+            ShortInstruction::Addi { imm, .. } => gives(word::add_signed(a, i16::from(imm))),
             ShortInstruction::Ld { .. } => reaches(true, 4, a, 0),
             ShortInstruction::St { .. } => reaches(false, 4, a, b),
-            ShortInstruction::Bz { offset, .. } => branches(a == 0, n, widen(offset), Mode::Short),
-            ShortInstruction::Bnz { offset, .. } => branches(
-                !(a == 0),
+            ShortInstruction::Bz { offset, .. } => branches(
+                a == 0,
                 n,
-                widen(offset),
+                i16::from(offset),
                 Mode::Short,
             ),
-            ShortInstruction::Jr { .. } => jumps(a, Mode::Short, NewMode::Keep),
+            ShortInstruction::Bnz { offset, .. } => branches(
+                a != 0,
+                n,
+                i16::from(offset),
+                Mode::Short,
+            ),
+            ShortInstruction::Jr { .. } => jumps(a, Mode::Short, None),
             ShortInstruction::Jal { offset } => links(
                 n,
                 word::add_signed(n, offset),
                 Mode::Short,
-                NewMode::Keep,
+                None,
             ),
-            ShortInstruction::Ldi { imm, .. } => gives(byte(imm)),
-            ShortInstruction::Ret => jumps(n, Mode::Normal, NewMode::To(Mode::Normal)),
+            ShortInstruction::Ldi { imm, .. } => gives(u32::from(imm)),
+            ShortInstruction::Ret => jumps(n, Mode::Normal, Some(Mode::Normal)),
             ShortInstruction::Unknown(_) => raises(Exception::IllegalInstruction),
         }
     }

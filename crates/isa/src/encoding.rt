@@ -1,4 +1,4 @@
-// An instruction's numbers as registers and words.
+// The registers that a halfword names.
 ghost use Rattle.std.specs.Prelude.{◌≡◌};
 ghost use Rattle.isa.specs.Operands.{gpr};
 
@@ -11,25 +11,4 @@ pub fn short_reg_to_gpr(sr: u8) -> u8
         return sr;
     }
     31
-}
-
-// A signed 8-bit immediate or offset, as one of 16 bits.
-pub(crate) fn widen(x: i8) -> i16
-    ensures { result ≡ x }
-{
-    x as i16
-}
-
-// A 16-bit immediate as a word.
-pub(crate) fn half(x: u16) -> u32
-    ensures { result ≡ x }
-{
-    x as u32
-}
-
-// An 8-bit immediate as a word.
-pub(crate) fn byte(x: u8) -> u32
-    ensures { result ≡ x }
-{
-    x as u32
 }

@@ -2,16 +2,7 @@
 //
 // Wrong programs that the promises rule out, for each function two. A name in brackets is the must-fail edit that
 // tries one, in the code or in its definition:
-// - Dest::is: true for R0 where no destination is named; true for every register where one is.
-// - Dest::is_named: false for R0; false for a number above 31.
-// - Redirect::is_to: false for the target 0; true where the instruction goes on.
-// - Redirect::target_or: `pc` although there is a target; 0 where the instruction goes on.
-// - Redirect::mode_or: `mode` although there is a target; Normal where the instruction goes on.
-// - NewMode::or: Short for every change; Normal where the mode is kept.
-// - Exception::is_some: false for SYSCALL's; true for none.
-// - Mtsr::is_some: false for special register 0; false for the word 0.
 // - short_reg_to_gpr: R15 for 15 (register_15_is_r15); R31 for 14.
-// - sel: the two words exchanged; the first word always.
 // - read_reg: the word that stands in reg[0] for R0; 0 for R31.
 // - put_reg: R0 written; R31 not written.
 // - write_reg: a word for R1 where no destination is named; R0 put to 0.
@@ -23,32 +14,30 @@
 // - RawInstr::decoded: halfword F001 as Unknown; NOP for every Normal instruction.
 // - Decoded::operands: LDIL with no source; a latency of 4 for MUL (mul_latency_4);
 //   short ST with its operands exchanged (short_st_operands_swapped).
-// - Dest::in_bounds: 32 in bounds; out of bounds where no destination is named.
+// - is_dest_in_bounds: 32 in bounds (register_32_named); out of bounds where no destination is named.
 // - Operands::in_bounds: the destination not tested; a source tested only where `n_srcs` counts it.
-// - Instruction::code: 2 for MFSR; 0 for ADD with register 32.
-// - RawInstr::code: 1 for an unknown halfword; 0 for a Normal instruction with register 32.
+// - Instruction::in_bounds: its first source alone tested (bounds_of_a_source_alone); false for MFSR.
+// - RawInstr::in_bounds: false for an unknown halfword; true for a Normal instruction with register 32
+//   (offers_untested).
 // - RawInstr::is_of: a halfword of either mode; the two modes exchanged.
-// - Decoded::code: 1 for register 16 of a Short instruction; 2 for MFSR.
+// - Decoded::in_bounds: false for a Short instruction (short_registers_refused); false for MFSR.
 // - Decoded::effect: RET to the address in R31 (ret_to_r31); HALT that halts in user mode; a special register asked for
 //   in user mode (asked_in_user_mode).
-// - Inquiry::is_some: false for special register 0; true for none.
-// - Special::is_some: false for no such register; true where nothing is said.
-// - Special::effect: 0 for no such register (absent_still_writes); the word cut to 16 bits.
+// - mfsr_with: 0 for no such register (absent_still_writes); the word cut to 16 bits.
 // - Effect::filled: an effect that asks for nothing replaced; one that asks left as it is.
 // - raises: an exception that leaves `writes` set; no exception for SYSCALL 0.
 // - Mode::size: 4 for Short; 2 for Normal.
 // - Mode::fall: 4 added in Short mode; a sum that stops at FFFFFFFF.
+// - Place::after: the same place (stays_in_place); Normal for every mode.
 #![tactic(auto)]
 
-mod destinations;
+pub mod destinations;
 pub mod effect_table;
 mod encoding;
-mod exceptions;
-mod inquiries;
+pub mod inquiries;
 mod modes;
 mod operand_table;
 mod prediction;
-mod redirects;
 mod refusals;
 pub mod registers;
 mod short;
@@ -56,10 +45,17 @@ mod starts;
 mod waits;
 
 // The mode of an instruction: 4 bytes long, or 2.
-#[derive(Clone, Copy)]
+#[derive(Clone, Copy, Debug, PartialEq, Eq)]
 pub enum Mode {
     Normal,
     Short,
+}
+
+// An address and its mode.
+#[derive(Clone, Copy)]
+pub struct Place {
+    pub pc: u32,
+    pub mode: Mode,
 }
 
 // What a program starts with: registers, address, mode, whether it runs in user mode, the feature word.
@@ -167,31 +163,9 @@ pub enum Decoded {
     Short(ShortInstruction),
 }
 
-// The register that an instruction names as its destination.
-#[derive(Clone, Copy)]
-pub enum Dest {
-    None,
-    Reg(u8),
-}
-
-// Where an instruction goes: on to the next address, or to a target and its mode.
-#[derive(Clone, Copy)]
-pub enum Redirect {
-    Next,
-    To(u32, Mode),
-}
-
-// The mode that a jump changes to at its retirement.
-#[derive(Clone, Copy)]
-pub enum NewMode {
-    Keep,
-    To(Mode),
-}
-
 // What a load or store asks of the memory: address, width in bytes, and a store's word cut to the width.
 #[derive(Clone, Copy)]
 pub enum Request {
-    None,
     Load { addr: u32, width: u8 },
     Store { addr: u32, width: u8, word: u32 },
 }
@@ -199,7 +173,6 @@ pub enum Request {
 // An exception that an instruction raises.
 #[derive(Clone, Copy)]
 pub enum Exception {
-    None,
     PrivilegedInstruction,
     IllegalInstruction,
     Syscall(u16),
@@ -207,43 +180,28 @@ pub enum Exception {
 
 // MTSR's special register number and word.
 #[derive(Clone, Copy)]
-pub enum Mtsr {
-    None,
-    Write(u16, u32),
+pub struct Mtsr {
+    pub sr: u16,
+    pub value: u32,
 }
 
-// The special register that MFSR asks for.
-#[derive(Clone, Copy)]
-pub enum Inquiry {
-    None,
-    Of(u16),
-}
-
-// What is said of a special register: nothing, that there is no such register, or its word.
-#[derive(Clone, Copy)]
-pub enum Special {
-    None,
-    NoSuch,
-    Word(u32),
-}
-
-// What an instruction names: its two sources (R0 where it has none), how many, its destination,
-// whether it loads or stores, its latency (0: none), a conditional branch's offset as a word.
+// What an instruction names: its two sources (R0 where it has none), how many, its destination, as ID/EX takes them over,
+// whether it loads or stores, the latency of a multiply or divide, a conditional branch's offset as a word.
 #[derive(Clone, Copy)]
 pub struct Operands {
     pub src_a: u8,
     pub src_b: u8,
     pub n_srcs: u8,
-    pub dest: Dest,
+    pub dest: Option<u8>,
     pub is_load: bool,
     pub is_store: bool,
-    pub latency: u8,
-    pub is_branch: bool,
-    pub offset: u32,
+    pub latency: Option<u8>,
+    pub branch: Option<u32>,
 }
 
 // The word that an instruction computes. `writes`: its destination gets a word;
-// `always_writes`: it asks for the write even where no destination is named.
+// `always_writes`: it asks for the write even where no destination is named. Flags, and no option: EX/MEM takes the word
+// over also where none is written, and with an option each use would spell out the 0 that then stands there.
 #[derive(Clone, Copy)]
 pub struct AluResult {
     pub value: u32,
@@ -252,6 +210,7 @@ pub struct AluResult {
 }
 
 // What an instruction asks of the memory: address, a store's word, width in bytes (0: no access), and whether it reads.
+// The fields are EX/MEM's own, which takes them over one by one, so a width of 0 is no option here either.
 #[derive(Clone, Copy)]
 pub struct Access {
     pub mem_addr: u32,
@@ -266,17 +225,19 @@ pub struct Marks {
     pub halt: bool,
     pub iret: bool,
     pub cpuid: bool,
-    pub exception: Exception,
-    pub mtsr: Mtsr,
+    pub exception: Option<Exception>,
+    pub mtsr: Option<Mtsr>,
 }
 
-// What an instruction does with two operand values.
+// What an instruction does with two operand values. `redirect`: the target of one that does not go on to the next
+// address; `branch_new_mode`: the mode that a jump changes to at its retirement; `inquiry`: the special register that
+// MFSR asks for.
 #[derive(Clone, Copy)]
 pub struct Effect {
     pub access: Access,
     pub alu: AluResult,
-    pub redirect: Redirect,
-    pub branch_new_mode: NewMode,
+    pub redirect: Option<Place>,
+    pub branch_new_mode: Option<Mode>,
     pub marks: Marks,
-    pub inquiry: Inquiry,
+    pub inquiry: Option<u16>,
 }

@@ -1,8 +1,8 @@
 // How long an instruction is, and where the next one stands.
 ghost use Rattle.std.specs.Prelude.{◌≡◌};
-ghost use Rattle.isa.specs.Effect.{fall, size};
+ghost use Rattle.isa.specs.Effect.{after, fall, size};
 
-use crate::{Instruction, Mode, ShortInstruction};
+use crate::{Instruction, Mode, Place, ShortInstruction};
 
 impl Mode {
     // The size of an instruction in bytes.
@@ -22,5 +22,18 @@ impl Mode {
         ensures { result ≡ fall pc self }
     {
         word::add(pc, self.size())
+    }
+}
+
+impl Place {
+    // The place of the next instruction, in the same mode.
+    #[tactic(auto, unfolding(crate::specs::Effect::after))]
+    pub fn after(self) -> Place
+        ensures { result ≡ after self }
+    {
+        Place {
+            pc: self.mode.fall(self.pc),
+            ..self
+        }
     }
 }

@@ -3,12 +3,12 @@ ghost use Rattle.std.specs.Prelude.{◌≡◌};
 ghost use Rattle.isa.specs.Operands.{bare, binary, branching, loading, operands_n, operands_of, operands_s, plain};
 ghost use Rattle.isa.specs.Operands.{reads, storing, unary, writes};
 
-use crate::encoding::{short_reg_to_gpr, widen};
-use crate::{Decoded, Dest, Instruction, Operands, ShortInstruction};
+use crate::encoding::short_reg_to_gpr;
+use crate::{Decoded, Instruction, Operands, ShortInstruction};
 
 // No load, no store and no branch; `n` sources, destination `d`, latency `l`.
 #[tactic(auto, unfolding(crate::specs::Operands::plain))]
-fn plain(a: u8, b: u8, n: u8, d: Dest, l: u8) -> Operands
+fn plain(a: u8, b: u8, n: u8, d: Option<u8>, l: Option<u8>) -> Operands
     ensures { result ≡ plain a b n d l }
 {
     Operands {
@@ -19,8 +19,7 @@ fn plain(a: u8, b: u8, n: u8, d: Dest, l: u8) -> Operands
         is_load: false,
         is_store: false,
         latency: l,
-        is_branch: false,
-        offset: 0,
+        branch: None,
     }
 }
 
@@ -29,7 +28,7 @@ fn plain(a: u8, b: u8, n: u8, d: Dest, l: u8) -> Operands
 fn bare() -> Operands
     ensures { result ≡ bare }
 {
-    plain(0, 0, 0, Dest::None, 0)
+    plain(0, 0, 0, None, None)
 }
 
 // No source, destination `d`.
@@ -37,7 +36,7 @@ fn bare() -> Operands
 fn writes(d: u8) -> Operands
     ensures { result ≡ writes d }
 {
-    plain(0, 0, 0, Dest::Reg(d), 0)
+    plain(0, 0, 0, Some(d), None)
 }
 
 // Source `a`, destination `d`.
@@ -45,15 +44,15 @@ fn writes(d: u8) -> Operands
 fn unary(d: u8, a: u8) -> Operands
     ensures { result ≡ unary d a }
 {
-    plain(a, 0, 1, Dest::Reg(d), 0)
+    plain(a, 0, 1, Some(d), None)
 }
 
 // Sources `a` and `b`, destination `d`, latency `l`.
 #[tactic(auto, unfolding(crate::specs::Operands::binary))]
-fn binary(l: u8, d: u8, a: u8, b: u8) -> Operands
+fn binary(l: Option<u8>, d: u8, a: u8, b: u8) -> Operands
     ensures { result ≡ binary l d a b }
 {
-    plain(a, b, 2, Dest::Reg(d), l)
+    plain(a, b, 2, Some(d), l)
 }
 
 // Source `a` only.
@@ -61,65 +60,45 @@ fn binary(l: u8, d: u8, a: u8, b: u8) -> Operands
 fn reads(a: u8) -> Operands
     ensures { result ≡ reads a }
 {
-    plain(a, 0, 1, Dest::None, 0)
+    plain(a, 0, 1, None, None)
 }
 
 // A load from base `a` into `d`.
-#[tactic(auto, unfolding(crate::specs::Operands::loading))]
+#[tactic(auto, unfolding(crate::specs::Operands::loading, crate::specs::Operands::unary, crate::specs::Operands::plain))]
 fn loading(d: u8, a: u8) -> Operands
     ensures { result ≡ loading d a }
 {
     Operands {
-        src_a: a,
-        src_b: 0,
-        n_srcs: 1,
-        dest: Dest::Reg(d),
         is_load: true,
-        is_store: false,
-        latency: 0,
-        is_branch: false,
-        offset: 0,
+        ..unary(d, a)
     }
 }
 
 // A store of register `b` to address or base `a`.
-#[tactic(auto, unfolding(crate::specs::Operands::storing))]
+#[tactic(auto, unfolding(crate::specs::Operands::storing, crate::specs::Operands::plain))]
 fn storing(a: u8, b: u8) -> Operands
     ensures { result ≡ storing a b }
 {
     Operands {
-        src_a: a,
-        src_b: b,
-        n_srcs: 2,
-        dest: Dest::None,
-        is_load: false,
         is_store: true,
-        latency: 0,
-        is_branch: false,
-        offset: 0,
+        ..plain(a, b, 2, None, None)
     }
 }
 
 // A conditional branch on `n` sources.
-#[tactic(auto, unfolding(crate::specs::Operands::branching))]
+#[tactic(auto, unfolding(crate::specs::Operands::branching, crate::specs::Operands::plain))]
 fn branching(a: u8, b: u8, n: u8, o: i16) -> Operands
     ensures { result ≡ branching a b n o }
 {
     Operands {
-        src_a: a,
-        src_b: b,
-        n_srcs: n,
-        dest: Dest::None,
-        is_load: false,
-        is_store: false,
-        latency: 0,
-        is_branch: true,
-        offset: word::of_signed(o),
+        branch: Some(word::of_signed(o)),
+        ..plain(a, b, n, None, None)
     }
 }
 
 impl Instruction {
-    // The row of a Normal instruction.
+    // The row of a Normal instruction. Inlined, since the check of a sheet uses a few of its fields only.
+    #[inline(always)]
     #[tactic(auto, unfolding(crate::specs::Operands::operands_n))]
     pub(crate) fn operands(self) -> Operands
         ensures { result ≡ operands_n self }
@@ -128,10 +107,10 @@ impl Instruction {
             Instruction::Nop => bare(),
             Instruction::Ld { rd, base, .. } => loading(rd, base),
             Instruction::St { rd, base, .. } => storing(base, rd),
-            Instruction::Add { rd, rs1, rs2 } => binary(0, rd, rs1, rs2),
+            Instruction::Add { rd, rs1, rs2 } => binary(None, rd, rs1, rs2),
             Instruction::Addi { rd, rs1, .. } => unary(rd, rs1),
-            Instruction::Sub { rd, rs1, rs2 } => binary(0, rd, rs1, rs2),
-            Instruction::Slt { rd, rs1, rs2 } => binary(0, rd, rs1, rs2),
+            Instruction::Sub { rd, rs1, rs2 } => binary(None, rd, rs1, rs2),
+            Instruction::Slt { rd, rs1, rs2 } => binary(None, rd, rs1, rs2),
             Instruction::Beq { rs1, rs2, offset } => branching(rs1, rs2, 2, offset),
             Instruction::Bne { rs1, rs2, offset } => branching(rs1, rs2, 2, offset),
             Instruction::Jmp { .. } => bare(),
@@ -144,19 +123,44 @@ impl Instruction {
             Instruction::Jalrs { rd } => unary(31, rd),
             Instruction::Cpuid => bare(),
             Instruction::Halt => bare(),
-            Instruction::And { rd, rs1, rs2 } => binary(0, rd, rs1, rs2),
-            Instruction::Or { rd, rs1, rs2 } => binary(0, rd, rs1, rs2),
-            Instruction::Xor { rd, rs1, rs2 } => binary(0, rd, rs1, rs2),
-            Instruction::Sll { rd, rs1, rs2 } => binary(0, rd, rs1, rs2),
-            Instruction::Srl { rd, rs1, rs2 } => binary(0, rd, rs1, rs2),
-            Instruction::Sla { rd, rs1, rs2 } => binary(0, rd, rs1, rs2),
-            Instruction::Sra { rd, rs1, rs2 } => binary(0, rd, rs1, rs2),
-            Instruction::Sltu { rd, rs1, rs2 } => binary(0, rd, rs1, rs2),
-            Instruction::Mul { rd, rs1, rs2 } => binary(Instruction::MUL_LATENCY, rd, rs1, rs2),
-            Instruction::Div { rd, rs1, rs2 } => binary(Instruction::DIV_LATENCY, rd, rs1, rs2),
-            Instruction::Mod { rd, rs1, rs2 } => binary(Instruction::DIV_LATENCY, rd, rs1, rs2),
-            Instruction::Mulh { rd, rs1, rs2 } => binary(Instruction::MUL_LATENCY, rd, rs1, rs2),
-            Instruction::Divu { rd, rs1, rs2 } => binary(Instruction::DIV_LATENCY, rd, rs1, rs2),
+            Instruction::And { rd, rs1, rs2 } => binary(None, rd, rs1, rs2),
+            Instruction::Or { rd, rs1, rs2 } => binary(None, rd, rs1, rs2),
+            Instruction::Xor { rd, rs1, rs2 } => binary(None, rd, rs1, rs2),
+            Instruction::Sll { rd, rs1, rs2 } => binary(None, rd, rs1, rs2),
+            Instruction::Srl { rd, rs1, rs2 } => binary(None, rd, rs1, rs2),
+            Instruction::Sla { rd, rs1, rs2 } => binary(None, rd, rs1, rs2),
+            Instruction::Sra { rd, rs1, rs2 } => binary(None, rd, rs1, rs2),
+            Instruction::Sltu { rd, rs1, rs2 } => binary(None, rd, rs1, rs2),
+            Instruction::Mul { rd, rs1, rs2 } => binary(
+                Some(Instruction::MUL_LATENCY),
+                rd,
+                rs1,
+                rs2,
+            ),
+            Instruction::Div { rd, rs1, rs2 } => binary(
+                Some(Instruction::DIV_LATENCY),
+                rd,
+                rs1,
+                rs2,
+            ),
+            Instruction::Mod { rd, rs1, rs2 } => binary(
+                Some(Instruction::DIV_LATENCY),
+                rd,
+                rs1,
+                rs2,
+            ),
+            Instruction::Mulh { rd, rs1, rs2 } => binary(
+                Some(Instruction::MUL_LATENCY),
+                rd,
+                rs1,
+                rs2,
+            ),
+            Instruction::Divu { rd, rs1, rs2 } => binary(
+                Some(Instruction::DIV_LATENCY),
+                rd,
+                rs1,
+                rs2,
+            ),
             Instruction::Ldb { rd, base, .. } => loading(rd, base),
             Instruction::Ldh { rd, base, .. } => loading(rd, base),
             Instruction::Stb { rd, base, .. } => storing(base, rd),
@@ -181,7 +185,7 @@ impl ShortInstruction {
         match self {
             ShortInstruction::Mov { rd, rs1 } => unary(short_reg_to_gpr(rd), short_reg_to_gpr(rs1)),
             ShortInstruction::Add { rd, rs1, rs2 } => binary(
-                0,
+                None,
                 short_reg_to_gpr(rd),
                 short_reg_to_gpr(rs1),
                 short_reg_to_gpr(rs2),
@@ -199,13 +203,13 @@ impl ShortInstruction {
                 short_reg_to_gpr(rd),
                 0,
                 1,
-                widen(offset),
+                i16::from(offset),
             ),
             ShortInstruction::Bnz { rd, offset } => branching(
                 short_reg_to_gpr(rd),
                 0,
                 1,
-                widen(offset),
+                i16::from(offset),
             ),
             ShortInstruction::Jr { rd } => reads(short_reg_to_gpr(rd)),
             ShortInstruction::Jal { .. } => writes(31),

@@ -2,24 +2,26 @@
 ghost use Rattle.std.specs.Prelude.{◌≡◌};
 ghost use Rattle.isa.specs.Waits.{is_negative, predict_by};
 
-use crate::redirects::redirect_if;
-use crate::{Mode, Operands, Redirect};
+use crate::{Operands, Place};
 
 // A word whose top bit is set.
 #[tactic(auto, unfolding(crate::specs::Waits::is_negative))]
 fn is_negative(w: u32) -> bool
     ensures { result ≡ is_negative w }
 {
-    !(w < 0x8000_0000)
+    w >= 0x8000_0000
 }
 
 impl Operands {
     // The prediction for an instruction with these operands.
-    #[tactic(auto, unfolding(crate::specs::Waits::predict_by))]
-    pub fn predict(self, pc: u32, mode: Mode) -> Redirect
-        ensures { result ≡ predict_by self pc mode }
+    #[tactic(auto, unfolding(crate::specs::Waits::predict_by, crate::specs::Waits::back_to, crate::specs::Effect::after))]
+    pub fn predict(self, at: Place) -> Option<Place>
+        ensures { result ≡ predict_by self at.pc at.mode }
     {
-        let taken = self.is_branch & is_negative(self.offset);
-        redirect_if(taken, word::add(mode.fall(pc), self.offset), mode)
+        let offset = self.branch?;
+        is_negative(offset).then_some(Place {
+            pc: word::add(at.after().pc, offset),
+            ..at
+        })
     }
 }

@@ -1,9 +1,9 @@
-// The refusal of an instruction: 1, a register above 31; 0 for none. And the mode that it is of.
+// Whether every register that an instruction names is below 32, and the mode that an instruction is of.
 ghost use Rattle.std.specs.Prelude.{◌≡◌};
-ghost use Rattle.isa.specs.Names.{Short};
 ghost use Rattle.isa.specs.Operands.{ok_operands};
-ghost use Rattle.isa.specs.Refusals.{decoded_code, instruction_code, is_of, raw_code};
+ghost use Rattle.isa.specs.Refusals.{is_of, ok_decoded, ok_instruction, ok_raw};
 
+use crate::destinations::is_dest_in_bounds;
 use crate::{Decoded, Instruction, Mode, Operands, RawInstr};
 
 impl Operands {
@@ -12,43 +12,28 @@ impl Operands {
     pub fn in_bounds(self) -> bool
         ensures { result ≡ ok_operands self }
     {
-        let d = self.dest;
-        (self.src_a < 32) & ((self.src_b < 32) & d.in_bounds())
+        (self.src_a < 32) & (self.src_b < 32) & is_dest_in_bounds(self.dest)
     }
 }
 
 impl Instruction {
-    // Its refusal.
-    #[tactic(auto, unfolding(crate::specs::Refusals::instruction_code))]
-    pub fn code(self) -> u32
-        ensures { result ≡ instruction_code self }
+    // Whether its registers are below 32.
+    #[tactic(auto, unfolding(crate::specs::Refusals::ok_instruction))]
+    pub fn in_bounds(self) -> bool
+        ensures { result ≡ ok_instruction self }
     {
-        let o = self.operands();
-        if o.in_bounds() {
-            return 0;
-        }
-        1
+        self.operands().in_bounds()
     }
 }
 
 impl RawInstr {
-    // A halfword has none.
-    #[tactic(auto, unfolding(crate::specs::Refusals::raw_code))]
-    pub fn code(self) -> u32
-        ensures { result ≡ raw_code self }
+    // The same; the register numbers of a halfword are not tested.
+    #[tactic(auto, unfolding(crate::specs::Refusals::ok_raw))]
+    pub fn in_bounds(self) -> bool
+        ensures { result ≡ ok_raw self }
     {
         match self {
-            RawInstr::Normal(i) => i.code(),
-            RawInstr::Short(_) => 0,
-        }
-    }
-
-    #[tactic(auto, unfolding(crate::specs::Refusals::is_of))]
-    fn is_short(self) -> bool
-        ensures { result ≡ is_of Short self }
-    {
-        match self {
-            RawInstr::Normal(_) => false,
+            RawInstr::Normal(i) => i.in_bounds(),
             RawInstr::Short(_) => true,
         }
     }
@@ -58,22 +43,22 @@ impl RawInstr {
     pub fn is_of(self, mode: Mode) -> bool
         ensures { result ≡ is_of mode self }
     {
-        match mode {
-            Mode::Normal => !self.is_short(),
-            Mode::Short => self.is_short(),
+        match self {
+            RawInstr::Normal(_) => mode == Mode::Normal,
+            RawInstr::Short(_) => mode == Mode::Short,
         }
     }
 }
 
 impl Decoded {
-    // The register numbers of a Short instruction are not tested.
-    #[tactic(auto, unfolding(crate::specs::Refusals::decoded_code))]
-    pub fn code(self) -> u32
-        ensures { result ≡ decoded_code self }
+    // The same; the register numbers of a Short instruction are not tested.
+    #[tactic(auto, unfolding(crate::specs::Refusals::ok_decoded))]
+    pub fn in_bounds(self) -> bool
+        ensures { result ≡ ok_decoded self }
     {
         match self {
-            Decoded::Normal(i) => i.code(),
-            Decoded::Short(_) => 0,
+            Decoded::Normal(i) => i.in_bounds(),
+            Decoded::Short(_) => true,
         }
     }
 }

@@ -1,32 +1,17 @@
 // Reading and writing the registers.
-ghost use Rattle.std.specs.Prelude.{cond, ◌≡◌};
+ghost use Rattle.std.specs.Prelude.{◌≡◌};
 ghost use Rattle.isa.specs.Registers.{put_reg, read_reg, write_cpuid, write_reg};
-
-use crate::Dest;
 
 // The processor's name, which CPUID gives.
 pub const PROCESSOR_NAME: u32 = 0x53524332;
-
-// One of two words.
-pub fn sel(on: bool, a: u32, b: u32) -> u32
-    ensures { result ≡ cond on a b }
-{
-    if on {
-        return a;
-    }
-    b
-}
 
 // The value of a register; R0 reads as 0.
 #[tactic(auto, unfolding(crate::specs::Registers::is_reg, crate::specs::Registers::read_reg))]
 pub fn read_reg(reg: &[u32; 32], r: u8) -> u32
     ensures { result ≡ read_reg reg.now r }
 {
-    if 0 < r {
-        if r < 32 {
-            let i = r as usize;
-            return reg[i];
-        }
+    if 0 < r && r < 32 {
+        return reg[usize::from(r)];
     }
     0
 }
@@ -36,20 +21,17 @@ pub fn read_reg(reg: &[u32; 32], r: u8) -> u32
 pub fn put_reg(k: u8, v: u32, reg: &mut [u32; 32])
     ensures { reg.new ≡ put_reg k v reg.old }
 {
-    if 0 < k {
-        if k < 32 {
-            let i = k as usize;
-            reg[i] = v;
-        }
+    if 0 < k && k < 32 {
+        reg[usize::from(k)] = v;
     }
 }
 
 // A word for a destination.
 #[tactic(auto, unfolding(crate::specs::Registers::write_reg))]
-pub fn write_reg(d: Dest, v: u32, reg: &mut [u32; 32])
-    ensures { reg.new ≡ write_reg d v reg.old }
+pub fn write_reg(dest: Option<u8>, v: u32, reg: &mut [u32; 32])
+    ensures { reg.new ≡ write_reg dest v reg.old }
 {
-    let Dest::Reg(k) = d else {
+    let Some(k) = dest else {
         return;
     };
     put_reg(k, v, reg);

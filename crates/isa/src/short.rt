@@ -1,29 +1,16 @@
 // Short decode.
-ghost use Rattle.std.specs.Prelude.{◌≡◌, ◌%◌};
+ghost use Rattle.std.specs.Prelude.{◌<◌, ◌≡◌, ◌%◌};
 ghost use Rattle.isa.specs.Short.{decode_short, decoded_of, low_bits, nibble};
 
 use crate::{Decoded, RawInstr, ShortInstruction};
 
-// The register numbers of a halfword, each in its nibble.
+// Nibble `k` of a halfword, counted from the low end.
 #[tactic(auto, unfolding(crate::specs::Short::nibble))]
-fn rd_of(raw: u16) -> u8
-    ensures { result ≡ nibble raw 2 }
+fn nibble(raw: u16, k: u32) -> u8
+    requires { k < 4 }
+    ensures { result ≡ nibble raw k }
 {
-    (raw / 256 % 16) as u8
-}
-
-#[tactic(auto, unfolding(crate::specs::Short::nibble))]
-fn rs1_of(raw: u16) -> u8
-    ensures { result ≡ nibble raw 1 }
-{
-    (raw / 16 % 16) as u8
-}
-
-#[tactic(auto, unfolding(crate::specs::Short::nibble))]
-fn rs2_of(raw: u16) -> u8
-    ensures { result ≡ nibble raw 0 }
-{
-    (raw % 16) as u8
+    (raw / 16u16.pow(k) % 16) as u8
 }
 
 // The low 8 bits.
@@ -38,23 +25,16 @@ fn imm8_of(raw: u16) -> u8
 fn imm8_signed(raw: u16) -> i8
     ensures { result ≡ low_bits 7 raw }
 {
-    let x = raw % 256;
-    if x < 128 {
-        return x as i8;
-    }
-    ((x as i32) - 256) as i8
+    imm8_of(raw).cast_signed()
 }
 
-// The low 12 bits, signed.
+// The low 12 bits, signed. The library reads signed numbers of 8 and of 16 bits, and none of 12.
 #[tactic(auto, unfolding(crate::specs::Short::low_bits))]
 fn imm12_signed(raw: u16) -> i16
     ensures { result ≡ low_bits 11 raw }
 {
-    let x = raw % 4096;
-    if x < 2048 {
-        return x as i16;
-    }
-    ((x as i32) - 4096) as i16
+    let x = (raw % 4096).cast_signed();
+    if x < 2048 { x } else { x - 4096 }
 }
 
 impl ShortInstruction {
@@ -66,40 +46,40 @@ impl ShortInstruction {
         let op = raw / 4096;
         match op {
             0 => ShortInstruction::Mov {
-                rd: rd_of(raw),
-                rs1: rs1_of(raw),
+                rd: nibble(raw, 2),
+                rs1: nibble(raw, 1),
             },
             1 => ShortInstruction::Add {
-                rd: rd_of(raw),
-                rs1: rs1_of(raw),
-                rs2: rs2_of(raw),
+                rd: nibble(raw, 2),
+                rs1: nibble(raw, 1),
+                rs2: nibble(raw, 0),
             },
             2 => ShortInstruction::Addi {
-                rd: rd_of(raw),
+                rd: nibble(raw, 2),
                 imm: imm8_signed(raw),
             },
             3 => ShortInstruction::Ld {
-                rd: rd_of(raw),
-                rs1: rs1_of(raw),
+                rd: nibble(raw, 2),
+                rs1: nibble(raw, 1),
             },
             4 => ShortInstruction::St {
-                rd: rd_of(raw),
-                rs1: rs1_of(raw),
+                rd: nibble(raw, 2),
+                rs1: nibble(raw, 1),
             },
             5 => ShortInstruction::Bz {
-                rd: rd_of(raw),
+                rd: nibble(raw, 2),
                 offset: imm8_signed(raw),
             },
             6 => ShortInstruction::Bnz {
-                rd: rd_of(raw),
+                rd: nibble(raw, 2),
                 offset: imm8_signed(raw),
             },
-            7 => ShortInstruction::Jr { rd: rd_of(raw) },
+            7 => ShortInstruction::Jr { rd: nibble(raw, 2) },
             8 => ShortInstruction::Jal {
                 offset: imm12_signed(raw),
             },
             9 => ShortInstruction::Ldi {
-                rd: rd_of(raw),
+                rd: nibble(raw, 2),
                 imm: imm8_of(raw),
             },
             10..=14 => ShortInstruction::Unknown(raw),

@@ -1,11 +1,10 @@
 -- Decode.
-use Rattle.std.specs.Prelude.{ℕ, Bool, ◌&&◌, false, true, List}
+use Rattle.std.specs.Prelude.{ℕ, Bool, ◌&&◌, false, true, List, None, is_some}
 use Rattle.isa.specs.Operands.{operands_of}
-use Rattle.isa.specs.Redirects.{is_to}
 use Rattle.isa.specs.Registers.{read_reg}
 use Rattle.isa.specs.Short.{decoded_of}
 use Rattle.isa.specs.Waits.{is_used, predict}
-use Rattle.latch.specs.Names.{Decoded, IdEx, IfId, Mode, NoException, Operands}
+use Rattle.latch.specs.Names.{Decoded, IdEx, IfId, Mode, Operands}
 
 -- the ID/EX latch of instruction i with operands o, at address p in mode m, its operands sampled from the
 -- registers; g: predicted taken
@@ -24,7 +23,7 @@ id_ex_by g i o p m rs = record {
   op_b = read_reg rs o.src_b;
   is_load = o.is_load;
   is_store = o.is_store;
-  exception = NoException;
+  exception = None;
 }
 
 -- the same with the operands that instruction i names
@@ -38,7 +37,7 @@ decode_id l rs = id_ex_of false (decoded_of l.raw) l.pc l.mode rs
 -- the same with the tick's prediction
 unfoldable pub decode_predicted : IfId → List ℕ → IdEx
 decode_predicted l rs =
-    id_ex_of (is_to (predict (decoded_of l.raw) l.pc l.mode)) (decoded_of l.raw) l.pc l.mode rs
+    id_ex_of (is_some (predict (decoded_of l.raw) l.pc l.mode)) (decoded_of l.raw) l.pc l.mode rs
 
 -- a valid load in ID/EX whose destination, other than R0, is one of the two sources
 unfoldable pub load_use : IdEx → ℕ → ℕ → Bool

@@ -1,6 +1,6 @@
 -- The empty latches.
-use Rattle.std.specs.Prelude.{false}
-use Rattle.latch.specs.Names.{DecNormal, ExMem, IdEx, IfId, Keep, MemWb, NoDest, NoException, NoMtsr, Nop, Normal}
+use Rattle.std.specs.Prelude.{false, None}
+use Rattle.latch.specs.Names.{DecNormal, ExMem, IdEx, IfId, MemWb, Nop, Normal, Place}
 use Rattle.latch.specs.Names.{RawNormal}
 
 -- IF/ID at a start: invalid, with NOP at address 0 in Normal mode
@@ -18,12 +18,12 @@ empty_id_ex = record {
   src_a = 0;
   src_b = 0;
   n_srcs = 0;
-  dest = NoDest;
+  dest = None;
   op_a = 0;
   op_b = 0;
   is_load = false;
   is_store = false;
-  exception = NoException;
+  exception = None;
 }
 
 -- EX/MEM with no instruction
@@ -33,7 +33,7 @@ empty_ex_mem = record {
   pc = 0;
   mode = Normal;
   decoded = DecNormal Nop;
-  dest = NoDest;
+  dest = None;
   writeback = false;
   is_load = false;
   is_store = false;
@@ -44,12 +44,12 @@ empty_ex_mem = record {
   is_mem_read = false;
   branch_taken = false;
   branch_target = 0;
-  branch_new_mode = Keep;
+  branch_new_mode = None;
   halt = false;
   iret = false;
   cpuid = false;
-  exception = NoException;
-  mtsr = NoMtsr;
+  exception = None;
+  mtsr = None;
 }
 
 -- MEM/WB with no instruction
@@ -58,7 +58,7 @@ empty_mem_wb = record {
   valid = false;
   pc = 0;
   mode = Normal;
-  dest = NoDest;
+  dest = None;
   writeback = false;
   value = 0;
   halt = false;
@@ -66,10 +66,14 @@ empty_mem_wb = record {
   cpuid = false;
   branch_taken = false;
   branch_target = 0;
-  branch_new_mode = Keep;
-  exception = NoException;
-  mtsr = NoMtsr;
+  branch_new_mode = None;
+  exception = None;
+  mtsr = None;
 }
+
+-- where IF/ID was fetched from
+unfoldable pub place_of : IfId → Place
+place_of l = record { pc = l.pc; mode = l.mode }
 
 -- IF/ID emptied: invalid, with its contents kept
 unfoldable pub cleared : IfId → IfId

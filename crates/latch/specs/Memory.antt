@@ -1,8 +1,8 @@
 -- Memory: the request of EX/MEM, and the MEM/WB latch that it makes.
-use Rattle.std.specs.Prelude.{ℕ, ◌==◌, Bool, ◌&&◌, cond, false, not, true, List, [], ◌∷◌}
+use Rattle.std.specs.Prelude.{ℕ, ◌==◌, Bool, ◌&&◌, cond, false, not, true, List, [], ◌∷◌, Option, None, Some}
 use Rattle.isa.specs.Machine.{request_of}
 use Rattle.latch.specs.Latches.{empty_mem_wb}
-use Rattle.latch.specs.Names.{Dest, ExMem, MemWb, NoDest, NoRequest, Request}
+use Rattle.latch.specs.Names.{ExMem, MemWb, Request}
 
 -- a load that asks for memory; a width of 0 asks for nothing
 unfoldable pub loads : ExMem → Bool
@@ -13,8 +13,8 @@ unfoldable pub stores : ExMem → Bool
 stores l = l.is_store && not (l.mem_size == 0)
 
 -- the destination after a load (l), a store (s), or any other
-unfoldable pub dest_after : Bool → Bool → Dest → Dest
-dest_after l s d = cond l d (cond s NoDest d)
+unfoldable pub dest_after : Bool → Bool → Option ℕ → Option ℕ
+dest_after l s d = cond l d (cond s None d)
 
 -- whether it is written back
 unfoldable pub writes_after : Bool → Bool → Bool → Bool
@@ -25,7 +25,7 @@ unfoldable pub value_after : Bool → Bool → ℕ → ℕ → ℕ
 value_after l s answer result = cond l answer (cond s 0 result)
 
 -- MEM/WB with this destination, write and value, the rest passed on
-unfoldable pub passed_on : ExMem → Dest → Bool → ℕ → MemWb
+unfoldable pub passed_on : ExMem → Option ℕ → Bool → ℕ → MemWb
 passed_on l d b v = record {
   valid = true;
   pc = l.pc;
@@ -57,6 +57,6 @@ requests l =
     cond l.valid (request_of (loads l) (stores l) l.mem_addr l.mem_size l.store_value) []
 
 -- the request of a list that has at most one
-unfoldable pub request_in : List Request → Request
-request_in [] = NoRequest
-request_in (q ∷ qs) = q
+unfoldable pub request_in : List Request → Option Request
+request_in [] = None
+request_in (q ∷ qs) = Some q

@@ -1,18 +1,17 @@
 -- Retirement of MEM/WB: what it writes and whether it halts.
-use Rattle.std.specs.Prelude.{ℕ, set, Bool, ◌&&◌, ◌||◌, cond, false, true, List}
+use Rattle.std.specs.Prelude.{ℕ, set, Bool, ◌&&◌, ◌||◌, cond, false, true, List, Option, None, Some, is_some, unwrap_or}
 use Rattle.isa.specs.Effect.{fall}
-use Rattle.isa.specs.Redirects.{is_exception, is_mtsr, new_mode_or}
 use Rattle.isa.specs.Registers.{processor_name, put_reg}
-use Rattle.latch.specs.Names.{Dest, MemWb, Mode, NoDest, Reg}
+use Rattle.latch.specs.Names.{MemWb, Mode}
 
 -- a valid HALT
 unfoldable pub halts : MemWb → Bool
 halts l = l.valid && l.halt
 
 -- a write by the pipeline puts R0 back to 0
-unfoldable pub retire_reg : Dest → ℕ → List ℕ → List ℕ
-retire_reg NoDest v rs = rs
-retire_reg (Reg d) v rs = set (put_reg d v rs) 0 0
+unfoldable pub retire_reg : Option ℕ → ℕ → List ℕ → List ℕ
+retire_reg None v rs = rs
+retire_reg (Some d) v rs = set (put_reg d v rs) 0 0
 
 -- CPUID's words, and R0 back to 0
 unfoldable pub retire_cpuid : Bool → ℕ → List ℕ → List ℕ
@@ -33,8 +32,8 @@ retired_pc l p = cond l.valid (cond l.branch_taken l.branch_target (fall l.pc l.
 
 -- a mode after it
 unfoldable pub retired_mode : MemWb → Mode → Mode
-retired_mode l m = cond l.valid (new_mode_or l.branch_new_mode m) m
+retired_mode l m = cond l.valid (unwrap_or l.branch_new_mode m) m
 
 -- a valid exception, MTSR or IRET, which never retires
 unfoldable pub is_faulty : MemWb → Bool
-is_faulty l = l.valid && (is_exception l.exception || (is_mtsr l.mtsr || l.iret))
+is_faulty l = l.valid && (is_some l.exception || (is_some l.mtsr || l.iret))

@@ -3,13 +3,14 @@ ghost use Rattle.std.specs.Prelude.{◌≡◌};
 ghost use Rattle.latch.specs.Bounds.{bad_ex_mem, bad_id_ex, bad_if_id, bad_mem_wb, bad_width};
 
 use crate::{ExMem, IdEx, IfId, MemWb};
+use isa::destinations::is_dest_in_bounds;
 
 // A width other than 0, 1, 2, 4.
 #[tactic(auto, unfolding(crate::specs::Bounds::bad_width))]
 fn bad_width(w: u8) -> bool
     ensures { result ≡ bad_width w }
 {
-    !((w == 0) | ((w == 1) | ((w == 2) | (w == 4))))
+    !matches!(w, 0 | 1 | 2 | 4)
 }
 
 impl IfId {
@@ -18,8 +19,7 @@ impl IfId {
     pub fn out_of_bounds(self) -> bool
         ensures { result ≡ bad_if_id self }
     {
-        let raw = self.raw;
-        0 < raw.code()
+        !self.raw.in_bounds()
     }
 }
 
@@ -29,10 +29,8 @@ impl IdEx {
     pub fn out_of_bounds(self) -> bool
         ensures { result ≡ bad_id_ex self }
     {
-        let decoded = self.decoded;
-        let dest = self.dest;
-        let sources = (31 < self.src_a) | ((31 < self.src_b) | (2 < self.n_srcs));
-        (0 < decoded.code()) | (!dest.in_bounds() | sources)
+        let sources = (31 < self.src_a) | (31 < self.src_b) | (2 < self.n_srcs);
+        !self.decoded.in_bounds() | !is_dest_in_bounds(self.dest) | sources
     }
 }
 
@@ -42,9 +40,7 @@ impl ExMem {
     pub fn out_of_bounds(self) -> bool
         ensures { result ≡ bad_ex_mem self }
     {
-        let decoded = self.decoded;
-        let dest = self.dest;
-        (0 < decoded.code()) | (!dest.in_bounds() | bad_width(self.mem_size))
+        !self.decoded.in_bounds() | !is_dest_in_bounds(self.dest) | bad_width(self.mem_size)
     }
 }
 
@@ -54,7 +50,6 @@ impl MemWb {
     pub fn out_of_bounds(self) -> bool
         ensures { result ≡ bad_mem_wb self }
     {
-        let dest = self.dest;
-        !dest.in_bounds()
+        !is_dest_in_bounds(self.dest)
     }
 }

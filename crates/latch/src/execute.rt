@@ -1,105 +1,72 @@
 // Execute: the effect of ID/EX, the latch that it makes, and the redirect.
-ghost use Rattle.std.specs.Prelude.{cond, false, ◌≡◌};
+ghost use Rattle.std.specs.Prelude.{◌≡◌};
 ghost use Rattle.latch.specs.Execute.{effect_from, effect_in, ex_mem_of, mispredict, operand_b};
-ghost use Rattle.latch.specs.Names.{NoDest};
 
 use crate::forwarding::operand;
 use crate::{ExMem, IdEx, MemWb};
 use isa::effect_table::raises;
-use isa::{Dest, Effect, Mode, Redirect};
+use isa::{Effect, Place};
 
-// False where it is off, else `b`.
-fn unless(off: bool, b: bool) -> bool
-    ensures { result ≡ cond off false b }
-{
-    if off {
-        return false;
-    }
-    b
-}
-
-// A destination where it is written, else none.
-fn dest_if(on: bool, d: Dest) -> Dest
-    ensures { result ≡ cond on d NoDest }
-{
-    if on {
-        return d;
-    }
-    Dest::None
-}
-
-// The redirect of a way that was predicted taken or not.
+// The redirect of a way that was predicted taken or not; `next`: the place behind the instruction.
 #[tactic(auto, unfolding(crate::specs::Execute::mispredict))]
-pub fn mispredict(predicted: bool, way: Redirect, pc: u32, mode: Mode) -> Redirect
-    ensures { result ≡ mispredict predicted way pc mode }
+pub fn mispredict(predicted: bool, way: Option<Place>, next: Place) -> Option<Place>
+    ensures { result ≡ mispredict predicted way next.pc next.mode }
 {
-    if predicted {
-        match way {
-            Redirect::Next => Redirect::To(pc, mode),
-            Redirect::To(_, _) => Redirect::Next,
-        }
-    } else {
-        way
+    if !predicted {
+        return way;
+    }
+    match way {
+        None => Some(next),
+        Some(_) => None,
     }
 }
 
 impl IdEx {
     // What the instruction does with two operand values; an exception already in the latch comes first.
-    #[tactic(auto, unfolding(crate::specs::Execute::effect_in))]
+    #[tactic(auto, unfolding(crate::specs::Execute::effect_in, crate::specs::Execute::raised_or))]
     pub fn effect(self, user: bool, a: u32, b: u32) -> Effect
         ensures { result ≡ effect_in user self a b }
     {
-        let exception = self.exception;
-        if exception.is_some() {
-            return raises(exception);
+        match self.exception {
+            Some(exception) => raises(exception),
+            None => self.decoded.effect(user, self.pc, a, b),
         }
-        let d = self.decoded;
-        d.effect(user, self.pc, a, b)
     }
 
     // The next EX/MEM.
-    #[tactic(auto, unfolding(crate::specs::Execute::ex_mem_of, isa::specs::Machine::dest_of))]
+    #[tactic(auto, unfolding(crate::specs::Execute::ex_mem_of, isa::specs::Machine::dest_of, isa::specs::Redirects::target_or))]
     pub fn ex_mem(self, e: Effect) -> ExMem
         ensures { result ≡ ex_mem_of self e }
     {
-        let mode = self.mode;
-        let decoded = self.decoded;
-        let dest = self.dest;
-        let way = e.redirect;
-        let branch_new_mode = e.branch_new_mode;
-        let alu = e.alu;
-        let access = e.access;
-        let marks = e.marks;
-        let exception = marks.exception;
-        let mtsr = marks.mtsr;
-        let raised = exception.is_some();
+        let raised = e.marks.exception.is_some();
         ExMem {
             valid: true,
             pc: self.pc,
-            mode,
-            decoded,
-            dest: dest_if(alu.writes, dest),
-            writeback: alu.always_writes | (alu.writes & dest.is_named()),
-            is_load: unless(raised, self.is_load),
-            is_store: unless(raised, self.is_store),
-            alu_result: alu.value,
-            store_value: access.store_value,
-            mem_addr: access.mem_addr,
-            mem_size: access.mem_size,
-            is_mem_read: access.is_mem_read,
-            branch_taken: way.is_to(),
-            branch_target: way.target_or(0),
-            branch_new_mode,
-            halt: marks.halt,
-            iret: marks.iret,
-            cpuid: marks.cpuid,
-            exception,
-            mtsr,
+            mode: self.mode,
+            decoded: self.decoded,
+            dest: if e.alu.writes { self.dest } else { None },
+            writeback: e.alu.always_writes | (e.alu.writes & self.dest.is_some()),
+            is_load: self.is_load & !raised,
+            is_store: self.is_store & !raised,
+            alu_result: e.alu.value,
+            store_value: e.access.store_value,
+            mem_addr: e.access.mem_addr,
+            mem_size: e.access.mem_size,
+            is_mem_read: e.access.is_mem_read,
+            branch_taken: e.redirect.is_some(),
+            branch_target: e.redirect.map_or(0, |to| to.pc),
+            branch_new_mode: e.branch_new_mode,
+            halt: e.marks.halt,
+            iret: e.marks.iret,
+            cpuid: e.marks.cpuid,
+            exception: e.marks.exception,
+            mtsr: e.marks.mtsr,
         }
     }
 }
 
-// Operand B: forwarded where two sources are named, else as it was sampled.
+// Operand B: forwarded where two sources are named, else as it was sampled. The latches come apart here and in
+// `effect_from`, as in `operand`.
 #[tactic(auto, unfolding(crate::specs::Execute::operand_b))]
 fn operand_b(x: ExMem, w: MemWb, features: u32, reg: &[u32; 32], d: IdEx) -> u32
     ensures { result ≡ operand_b x w features reg.now d }

@@ -11,24 +11,22 @@ use isa::registers::{PROCESSOR_NAME, read_reg};
 fn cpuid_word(on: bool, features: u32, r: u8, v: u32) -> u32
     ensures { result ≡ cpuid_word on features r v }
 {
-    if on {
-        if 1 == r {
-            return PROCESSOR_NAME;
-        }
-        if 2 == r {
-            return features;
-        }
+    match r {
+        1 if on => PROCESSOR_NAME,
+        2 if on => features,
+        _ => v,
     }
-    v
 }
 
+// The two latches answer apart: a trait for both would need each one's word, its test for a load and its definitions
+// once more for each of them.
 impl MemWb {
     // Whether it holds register `r`: it is valid and writes it.
+    #[tactic(auto, unfolding(isa::specs::Registers::is_dest))]
     pub fn holds(self, r: u8) -> bool
         ensures { result ≡ mem_wb_holds self r }
     {
-        let dest = self.dest;
-        self.valid & (self.writeback & dest.is(r))
+        self.valid & self.writeback & (self.dest == Some(r))
     }
 
     // Its value for a register that it writes, then CPUID's words.
@@ -45,11 +43,11 @@ impl MemWb {
 
 impl ExMem {
     // Whether it holds register `r`: the same, but never the result of a load.
+    #[tactic(auto, unfolding(isa::specs::Registers::is_dest))]
     pub fn holds(self, r: u8) -> bool
         ensures { result ≡ ex_mem_holds self r }
     {
-        let dest = self.dest;
-        self.valid & (self.writeback & (!self.is_load & dest.is(r)))
+        self.valid & self.writeback & !self.is_load & (self.dest == Some(r))
     }
 
     // The same, but never the result of a load.
@@ -64,7 +62,8 @@ impl ExMem {
     }
 }
 
-// The value of a register as EX sees it. What is older is read only where EX/MEM does not hold it.
+// The value of a register as EX sees it. What is older is read only where EX/MEM does not hold it. The latches, the
+// feature word and the registers come apart: callers hold them in two values, and would fill a struct for each call.
 #[tactic(auto, unfolding(crate::specs::Forwarding::forward_from, crate::specs::Forwarding::from_ex_mem))]
 pub fn operand(x: ExMem, w: MemWb, features: u32, reg: &[u32; 32], r: u8) -> u32
     ensures { result ≡ forward_from x w features reg.now r }

@@ -6,6 +6,7 @@
 // - IdEx::invalid: a valid NOP; R0 for its destination.
 // - ExMem::invalid: a valid NOP; a width of 4.
 // - MemWb::invalid: a valid latch; R0 for its destination.
+// - IfId::place: Normal for every mode (normal_for_every_mode); the address after it.
 // - IfId::cleared: the contents reset too; the latch left valid.
 // - IfId::decode: an invalid latch made of an invalid one; a branch with negative offset predicted taken.
 // - IdEx::of: the word that stands in reg[0] sampled for R0; operand B 0 where fewer than two sources are named.
@@ -45,7 +46,10 @@ mod retire;
 ghost use Rattle.std.specs.Prelude.{◌≡◌};
 ghost use Rattle.latch.specs.Latches.{empty_ex_mem, empty_id_ex, empty_if_id, empty_mem_wb};
 
-use isa::{Decoded, Dest, Exception, Instruction, Mode, Mtsr, NewMode, RawInstr};
+use isa::{Decoded, Exception, Instruction, Mode, Mtsr, RawInstr};
+
+// The flags of the latches (`valid`, `writeback`, `branch_taken`, a width of 0) are no options: a caller may hand in any
+// value beside a flag that is off, and it is tested, kept and compared (RULES 8.5, 19.2).
 
 // Between fetch and decode.
 #[derive(Clone, Copy)]
@@ -67,12 +71,12 @@ pub struct IdEx {
     pub src_a: u8,
     pub src_b: u8,
     pub n_srcs: u8,
-    pub dest: Dest,
+    pub dest: Option<u8>,
     pub op_a: u32,
     pub op_b: u32,
     pub is_load: bool,
     pub is_store: bool,
-    pub exception: Exception,
+    pub exception: Option<Exception>,
 }
 
 // Between execute and memory. `mem_size` is the width in bytes, 0 for no request.
@@ -82,7 +86,7 @@ pub struct ExMem {
     pub pc: u32,
     pub mode: Mode,
     pub decoded: Decoded,
-    pub dest: Dest,
+    pub dest: Option<u8>,
     pub writeback: bool,
     pub is_load: bool,
     pub is_store: bool,
@@ -93,12 +97,12 @@ pub struct ExMem {
     pub is_mem_read: bool,
     pub branch_taken: bool,
     pub branch_target: u32,
-    pub branch_new_mode: NewMode,
+    pub branch_new_mode: Option<Mode>,
     pub halt: bool,
     pub iret: bool,
     pub cpuid: bool,
-    pub exception: Exception,
-    pub mtsr: Mtsr,
+    pub exception: Option<Exception>,
+    pub mtsr: Option<Mtsr>,
 }
 
 // Between memory and retirement.
@@ -107,7 +111,7 @@ pub struct MemWb {
     pub valid: bool,
     pub pc: u32,
     pub mode: Mode,
-    pub dest: Dest,
+    pub dest: Option<u8>,
     pub writeback: bool,
     pub value: u32,
     pub halt: bool,
@@ -115,11 +119,12 @@ pub struct MemWb {
     pub cpuid: bool,
     pub branch_taken: bool,
     pub branch_target: u32,
-    pub branch_new_mode: NewMode,
-    pub exception: Exception,
-    pub mtsr: Mtsr,
+    pub branch_new_mode: Option<Mode>,
+    pub exception: Option<Exception>,
+    pub mtsr: Option<Mtsr>,
 }
 
+// Each latch has an `invalid` of its own: a rule of the project has a function without self make each type's empty latch.
 impl IfId {
     // IF/ID at a start: invalid, with NOP at address 0 in Normal mode.
     #[tactic(auto, unfolding(crate::specs::Latches::empty_if_id))]
@@ -150,12 +155,12 @@ impl IdEx {
             src_a: 0,
             src_b: 0,
             n_srcs: 0,
-            dest: Dest::None,
+            dest: None,
             op_a: 0,
             op_b: 0,
             is_load: false,
             is_store: false,
-            exception: Exception::None,
+            exception: None,
         }
     }
 }
@@ -171,7 +176,7 @@ impl ExMem {
             pc: 0,
             mode: Mode::Normal,
             decoded: Decoded::Normal(Instruction::Nop),
-            dest: Dest::None,
+            dest: None,
             writeback: false,
             is_load: false,
             is_store: false,
@@ -182,12 +187,12 @@ impl ExMem {
             is_mem_read: false,
             branch_taken: false,
             branch_target: 0,
-            branch_new_mode: NewMode::Keep,
+            branch_new_mode: None,
             halt: false,
             iret: false,
             cpuid: false,
-            exception: Exception::None,
-            mtsr: Mtsr::None,
+            exception: None,
+            mtsr: None,
         }
     }
 }
@@ -202,7 +207,7 @@ impl MemWb {
             valid: false,
             pc: 0,
             mode: Mode::Normal,
-            dest: Dest::None,
+            dest: None,
             writeback: false,
             value: 0,
             halt: false,
@@ -210,9 +215,9 @@ impl MemWb {
             cpuid: false,
             branch_taken: false,
             branch_target: 0,
-            branch_new_mode: NewMode::Keep,
-            exception: Exception::None,
-            mtsr: Mtsr::None,
+            branch_new_mode: None,
+            exception: None,
+            mtsr: None,
         }
     }
 }

@@ -3,7 +3,7 @@ ghost use Rattle.std.specs.Prelude.{◌≡◌};
 ghost use Rattle.latch.specs.Memory.{loads, mem_wb_of, passed_on, request_in, requests, stores};
 
 use crate::{ExMem, MemWb};
-use isa::{Dest, Request};
+use isa::Request;
 
 impl ExMem {
     // A load that asks for memory; a width of 0 asks for nothing.
@@ -11,7 +11,7 @@ impl ExMem {
     pub fn loads(self) -> bool
         ensures { result ≡ loads self }
     {
-        self.is_load & !(self.mem_size == 0)
+        self.is_load & (self.mem_size != 0)
     }
 
     // A store that asks for memory.
@@ -19,22 +19,18 @@ impl ExMem {
     pub fn stores(self) -> bool
         ensures { result ≡ stores self }
     {
-        self.is_store & !(self.mem_size == 0)
+        self.is_store & (self.mem_size != 0)
     }
 
     // MEM/WB with this destination, write and value, the rest passed on.
     #[tactic(auto, unfolding(crate::specs::Memory::passed_on))]
-    fn passed(self, dest: Dest, writeback: bool, value: u32) -> MemWb
+    fn passed(self, dest: Option<u8>, writeback: bool, value: u32) -> MemWb
         ensures { result ≡ passed_on self dest writeback value }
     {
-        let mode = self.mode;
-        let branch_new_mode = self.branch_new_mode;
-        let exception = self.exception;
-        let mtsr = self.mtsr;
         MemWb {
             valid: true,
             pc: self.pc,
-            mode,
+            mode: self.mode,
             dest,
             writeback,
             value,
@@ -43,9 +39,9 @@ impl ExMem {
             cpuid: self.cpuid,
             branch_taken: self.branch_taken,
             branch_target: self.branch_target,
-            branch_new_mode,
-            exception,
-            mtsr,
+            branch_new_mode: self.branch_new_mode,
+            exception: self.exception,
+            mtsr: self.mtsr,
         }
     }
 
@@ -55,42 +51,40 @@ impl ExMem {
         ensures { result ≡ mem_wb_of self answer }
     {
         if self.valid {
-            let dest = self.dest;
             if self.mem_size == 0 {
-                return self.passed(dest, self.writeback, self.alu_result);
+                return self.passed(self.dest, self.writeback, self.alu_result);
             }
             if self.is_load {
-                return self.passed(dest, true, answer);
+                return self.passed(self.dest, true, answer);
             }
             if self.is_store {
-                return self.passed(Dest::None, false, 0);
+                return self.passed(None, false, 0);
             }
-            return self.passed(dest, self.writeback, self.alu_result);
+            return self.passed(self.dest, self.writeback, self.alu_result);
         }
         MemWb::invalid()
     }
 
     // The load or store that it asks for.
     #[tactic(auto, unfolding(crate::specs::Memory::requests, isa::specs::Machine::request_of, crate::specs::Memory::request_in))]
-    pub fn request(self) -> Request
+    pub fn request(self) -> Option<Request>
         ensures { result ≡ request_in (requests self) }
     {
         if self.valid {
             if self.loads() {
-                return Request::Load {
+                return Some(Request::Load {
                     addr: self.mem_addr,
                     width: self.mem_size,
-                };
+                });
             }
             if self.stores() {
-                let word = word::cut(self.mem_size, self.store_value);
-                return Request::Store {
+                return Some(Request::Store {
                     addr: self.mem_addr,
                     width: self.mem_size,
-                    word,
-                };
+                    word: word::cut(self.mem_size, self.store_value),
+                });
             }
         }
-        Request::None
+        None
     }
 }

@@ -4,15 +4,15 @@ ghost use Rattle.latch.specs.Retire.{halts, is_faulty, retire_cpuid, retire_reg,
 ghost use Rattle.latch.specs.Retire.{retired_regs};
 
 use crate::MemWb;
+use isa::Mode;
 use isa::registers::{put_reg, write_cpuid};
-use isa::{Dest, Mode};
 
 // A write puts R0 back to 0.
 #[tactic(auto, unfolding(crate::specs::Retire::retire_reg))]
-fn retire_reg(d: Dest, v: u32, reg: &mut [u32; 32])
-    ensures { reg.new ≡ retire_reg d v reg.old }
+fn retire_reg(dest: Option<u8>, v: u32, reg: &mut [u32; 32])
+    ensures { reg.new ≡ retire_reg dest v reg.old }
 {
-    let Dest::Reg(k) = d else {
+    let Some(k) = dest else {
         return;
     };
     put_reg(k, v, reg);
@@ -44,9 +44,7 @@ impl MemWb {
     pub fn is_faulty(self) -> bool
         ensures { result ≡ is_faulty self }
     {
-        let exception = self.exception;
-        let mtsr = self.mtsr;
-        self.valid & (exception.is_some() | (mtsr.is_some() | self.iret))
+        self.valid & (self.exception.is_some() | self.mtsr.is_some() | self.iret)
     }
 
     // The retire address after it.
@@ -58,8 +56,7 @@ impl MemWb {
             if self.branch_taken {
                 return self.branch_target;
             }
-            let mode = self.mode;
-            return mode.fall(self.pc);
+            return self.mode.fall(self.pc);
         }
         pc
     }
@@ -70,8 +67,7 @@ impl MemWb {
         ensures { result ≡ retired_mode self mode }
     {
         if self.valid {
-            let new = self.branch_new_mode;
-            return new.or(mode);
+            return self.branch_new_mode.unwrap_or(mode);
         }
         mode
     }
@@ -84,8 +80,7 @@ impl MemWb {
         if self.valid {
             retire_cpuid(self.cpuid, features, reg);
             if self.writeback {
-                let dest = self.dest;
-                retire_reg(dest, self.value, reg);
+                retire_reg(self.dest, self.value, reg);
             }
         }
     }

@@ -2,4 +2,3 @@ pub mod Names
 pub mod Panel
 pub mod Rows
 pub mod Claims
-pub mod Inner

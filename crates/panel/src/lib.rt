@@ -5,63 +5,51 @@
 // runner lent an empty table.
 #![tactic(auto)]
 
-ghost use Rattle.std.specs.Prelude.{◌≡◌};
-ghost use Rattle.panel.specs.Inner.{high_code, long_code, over_code};
-ghost use Rattle.panel.specs.Panel.{previewed};
+ghost use Rattle.std.specs.Prelude.{◌≡◌, Err, IfErr, OnOk};
+ghost use Rattle.panel.specs.Panel.{panel_check, previewed};
+ghost use Rattle.sheet.specs.Sheet.{limited_check};
 
 use pipeline::PipelineCpu;
+use refusal::Refusal;
 use runner::run;
 use runs::Ran;
 use sheet::End;
 use sheet::check::{bad_length, check_limited};
 
-// Of more than 1,280 bytes: 6, then 8.
-#[tactic(auto, unfolding(crate::specs::Inner::long_code))]
-fn long_code(n: usize) -> u32
-    ensures { result ≡ long_code n }
-{
-    if bad_length(n) {
-        return 6;
-    }
-    8
-}
+// The length in bytes of the longest sheet.
+const MAX_LENGTH: usize = 1_280;
 
-// With a limit above 10,000: 6, per record 5, 1, then 7, then 9.
-#[tactic(auto, unfolding(crate::specs::Inner::high_code))]
-fn high_code(sheet: &[u8], limit: u32) -> u32
-    ensures { result ≡ high_code sheet.now limit }
-{
-    let k = check_limited(sheet, limit);
-    if 0 < k {
-        return k;
-    }
-    9
-}
+// The highest limit.
+const MAX_LIMIT: u32 = 10_000;
 
-// The refusal of a sheet or a limit that is above the panel's; 0 leaves every test to the runner.
-#[tactic(auto, unfolding(crate::specs::Inner::over_code))]
-fn over_code(sheet: &[u8], limit: u32) -> u32
-    ensures { result ≡ over_code sheet.now limit }
+// The check of a sheet or a limit that is above the panel's; any other is left to the runner.
+#[tactic(auto, using(crate::proofs::Tests::high, crate::proofs::Tests::runners_refused, crate::proofs::Tests::within), unfolding(crate::specs::Panel::panel_check))]
+fn check(sheet: &[u8], limit: u32) -> Result<(), Refusal>
+    ensures refused { IfErr result (λ r. panel_check sheet.now limit ≡ Err r) }
+    ensures left { OnOk result (panel_check sheet.now limit ≡ limited_check sheet.now limit) }
 {
     let n = sheet.len();
-    if 1280 < n {
-        return long_code(n);
+    if n > MAX_LENGTH {
+        if bad_length(n) {
+            return Err(Refusal::BadLength);
+        }
+        return Err(Refusal::LongPreview);
     }
-    if 10000 < limit {
-        return high_code(sheet, limit);
+    if limit > MAX_LIMIT {
+        check_limited(sheet, limit)?;
+        return Err(Refusal::HighPreview);
     }
-    0
+    Ok(())
 }
 
 // Runs a sheet from a state to its end, within the panel's bounds; `table` has the words of the special registers.
-#[tactic(auto, unfolding(runs::specs::Run::refused_run))]
+#[tactic(auto, using(crate::proofs::Tests::refused_is, crate::proofs::Tests::runners_is), unfolding(runs::specs::Run::refused_run))]
 pub fn preview(state: PipelineCpu, sheet: &[u8], answers: &[u32], table: &[u32], limit: u32) -> Ran
     ensures { result ≡ previewed state sheet.now answers.now table.now limit }
 {
-    let k = over_code(sheet, limit);
-    if 0 < k {
+    if let Err(refusal) = check(sheet, limit) {
         return Ran {
-            end: End::Refused(k),
+            end: End::Refused(refusal),
             ticks: 0,
             state,
         };

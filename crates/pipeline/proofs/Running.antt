@@ -4,7 +4,9 @@ use mathlib.Core.Bool.{Bool, ◌&&◌, cond, false, true}
 use mathlib.Core.List.{List}
 use mathlib.Core.Path.{◌∙◌, ◌≡◌, refl, sym}
 use Rattle.isa.proofs.Bools.{split}
-use Rattle.isa.specs.Inquiries.{fill, is_inquiry, mfsr_with}
+use Rattle.isa.specs.Inquiries.{fill, mfsr_with}
+use Rattle.std.specs.Bool.{then_some}
+use Rattle.std.specs.Prelude.{None, Option, is_some}
 use Rattle.isa.specs.Waits.{predict}
 use Rattle.latch.specs.Decode.{decode_predicted, id_ex_of}
 use Rattle.latch.specs.Execute.{ex_mem_of}
@@ -19,16 +21,15 @@ use Rattle.stages.specs.Move.{free_move, inquiry_in, is_wait, move, next_ex_mem,
 use Rattle.stages.specs.Plans.{advance_plan, front_of, id_ex_from, open_ex_mem, plan_fetches, plan_of, said_ex_mem}
 use Rattle.stages.specs.Plans.{waited}
 use Rattle.stages.specs.Retire.{retire_stages}
-use Rattle.pipeline.proofs.Refusing.{fits_false, tick_code}
 use Rattle.pipeline.specs.Advance.{advance, move_of, next}
-use Rattle.pipeline.specs.Ask.{asks, fetch_at, fetch_of, origins_in, want_fetch, want_origins, want_special, wanted}
+use Rattle.pipeline.specs.Ask.{asks, fetch_at, fetch_wanted, origins_in, want_fetch, want_origins, want_special}
+use Rattle.pipeline.specs.Ask.{wanted}
 use Rattle.pipeline.specs.Inner.{Retired}
-use Rattle.pipeline.specs.Names.{Counters, Effect, Fetch, Given, IdEx, Inquiry, Move, NoFetch, NoInquiry}
-use Rattle.pipeline.specs.Names.{NoOrigins, Normal, PipelineCpu, Plan, Request, Shown, Special, Stages, Taken}
+use Rattle.pipeline.specs.Names.{Counters, Effect, Given, IdEx, Move, Origins, PipelineCpu, Place, Plan, Request}
+use Rattle.pipeline.specs.Names.{Stages, Taken}
 use Rattle.pipeline.specs.Names.{keep_waiting}
-use Rattle.pipeline.specs.Refusals.{code_of}
 use Rattle.pipeline.specs.Retire.{retire}
-use Rattle.pipeline.specs.Tick.{given_tests}
+use Rattle.pipeline.specs.Tick.{given_tests, wanted_tests}
 
 id_ex_next : (l : Stages) → (rs : List ℕ) → id_ex_from l.if_id (front_of l.if_id) rs ≡ next_id_ex l rs
 unfolding id_ex_from front_of next_id_ex decode_predicted id_ex_of predicted predict
@@ -39,17 +40,17 @@ fills_in : (b : Bool) (d : IdEx) (x y : Effect) → cond b (ex_mem_of d x) (ex_m
 fills_in true d x y = refl
 fills_in false d x y = refl
 
-fills_by : (w v : Bool) (d : IdEx) (e : Effect) (c : Special)
-    → cond (is_inquiry (cond w NoInquiry (cond v e.inquiry NoInquiry))) (ex_mem_of d (mfsr_with c))
+fills_by : (w v : Bool) (d : IdEx) (e : Effect) (c : Option (Option ℕ))
+    → cond (is_some (cond w None (cond v e.inquiry None))) (ex_mem_of d (mfsr_with c))
     (cond w empty_ex_mem (cond v (ex_mem_of d e) empty_ex_mem))
     ≡ cond w empty_ex_mem (cond v (ex_mem_of d (fill c e)) empty_ex_mem)
-unfolding is_inquiry fill
+unfolding fill
 fills_by true v d e c = refl
-fills_by false true d e c = fills_in (is_inquiry e.inquiry) d (mfsr_with c) e
+fills_by false true d e c = fills_in (is_some e.inquiry) d (mfsr_with c) e
 fills_by false false d e c = refl
 
-fills : (m : Move) (l : Stages) (rs : List ℕ) (c : Special)
-    → cond (is_inquiry (inquiry_in m l rs)) (ex_mem_of l.id_ex (mfsr_with c)) (open_ex_mem m l rs) ≡ next_ex_mem m l rs c
+fills : (m : Move) (l : Stages) (rs : List ℕ) (c : Option (Option ℕ))
+    → cond (is_some (inquiry_in m l rs)) (ex_mem_of l.id_ex (mfsr_with c)) (open_ex_mem m l rs) ≡ next_ex_mem m l rs c
 unfolding inquiry_in open_ex_mem next_ex_mem executed executed_by inquiry_of inquiry_by
 fills m l rs c = fills_by (is_wait m) l.id_ex.valid l.id_ex (effect_for l rs l.id_ex) c
 
@@ -90,11 +91,11 @@ module _ (s : PipelineCpu) (l : Stages) (rs : List ℕ) (b : Retired s l rs) whe
   unfolding next advance retire retire_stages unless_full
   next_by m a c x y em ea ec ex = rw (moves_by m em, ea, ec, ex, b.room, b.stages, b.reg, b.awake)
 
-  wants_of : (f : Bool) (g : Fetch) (x : Request) (q : Inquiry) (o : Shown) → f ≡ want_fetch s
-      → g ≡ fetch_of f (fetch_at s) → x ≡ request_in (requests l.ex_mem) → q ≡ want_special s → o ≡ want_origins s
+  wants_of : (g : Option Place) (x : Option Request) (q : Option ℕ) (o : Option Origins) → g ≡ fetch_wanted s
+      → x ≡ request_in (requests l.ex_mem) → q ≡ want_special s → o ≡ want_origins s
       → record { fetch = g; request = x; special = q; origins = o } ≡ wanted s
   unfolding wanted asks
-  wants_of f g x q o ef eg ex eq eo = rw (eg, ex, ef, eq, eo, b.stages, b.awake)
+  wants_of g x q o eg ex eq eo = rw (eg, ex, eq, eo, b.stages, b.awake)
 
   -- a wait goes on
   module _ (w : waits_on l ≡ true) where
@@ -102,29 +103,26 @@ module _ (s : PipelineCpu) (l : Stages) (rs : List ℕ) (b : Retired s l rs) whe
     unfolding move
     keeps = rw w
 
-    pub no_fetch : want_fetch s ≡ false
-    unfolding fetches stalls
-    no_fetch = wants_by keep_waiting keeps ∙ split l.running (λ e. rw e) (λ e. rw e)
+    no_fetch : fetch_wanted s ≡ None
+    unfolding fetch_wanted fetches stalls
+    no_fetch = rw (wants_by keep_waiting keeps) (split l.running (λ e. rw e) (λ e. rw e))
 
-    pub no_special : want_special s ≡ NoInquiry
+    no_special : want_special s ≡ None
     unfolding inquiry_in is_wait
     no_special = asks_by keep_waiting keeps
 
-    no_origins : want_origins s ≡ NoOrigins
+    no_origins : want_origins s ≡ None
     unfolding origins_in is_wait
     no_origins = shows_by keep_waiting keeps
 
-    pub wait_wants : (x : Request) → x ≡ request_in (requests l.ex_mem)
-        → record { fetch = NoFetch; request = x; special = NoInquiry; origins = NoOrigins } ≡ wanted s
-    unfolding fetch_of
-    wait_wants x ex =
-        wants_of false NoFetch x NoInquiry NoOrigins (sym no_fetch) refl ex (sym no_special) (sym no_origins)
+    pub wait_wants : (x : Option Request) → x ≡ request_in (requests l.ex_mem)
+        → record { fetch = None; request = x; special = None; origins = None } ≡ wanted s
+    wait_wants x ex = wants_of None x None None (sym no_fetch) ex (sym no_special) (sym no_origins)
 
-    pub wait_code : (t : Given) (k : ℕ) (d : Bool) → d ≡ loads_in l
-        → k ≡ code_of (given_tests false Normal d NoInquiry t) → k ≡ tick_code s t
-    unfolding tick_code given_tests code_of
-    wait_code t k d ed ek =
-        rw (ek, ed, want_load_lem, no_fetch, no_special, fits_false (fetch_at s).mode t.offer)
+    pub wait_given : (t : Given) (d : Bool) → d ≡ loads_in l
+        → given_tests None d None t ≡ wanted_tests s t
+    unfolding wanted_tests
+    wait_given t d ed = rw (ed, want_load_lem, no_fetch, no_special)
 
     pub wait_next : (a : Stages) (c : Counters) (x y : Taken) → a ≡ waited l x
         → c ≡ unless_full s.counts (counted keep_waiting (count_retired l.mem_wb.valid s.counts)) → x ≡ y
@@ -137,29 +135,33 @@ module _ (s : PipelineCpu) (l : Stages) (rs : List ℕ) (b : Retired s l rs) whe
     unfolding move plan_of
     frees = rw (w, ep)
 
-    pub want_fetch_lem : plan_fetches l p ≡ want_fetch s
+    want_fetch_lem : plan_fetches l p ≡ want_fetch s
     unfolding plan_fetches
     want_fetch_lem = sym (wants_by p.step frees)
 
-    pub fetch_at_lem : p.place ≡ fetch_at s
+    fetch_at_lem : p.place ≡ fetch_at s
     unfolding fetch_at plan_of retire
     fetch_at_lem = rw (moves_by p.step frees, ep, b.stages)
 
-    pub want_special_lem : p.inquiry ≡ want_special s
+    want_special_lem : p.inquiry ≡ want_special s
     unfolding plan_of
     want_special_lem = rw (asks_by p.step frees, ep)
 
-    pub plan_wants : (f : Bool) (g : Fetch) (x : Request) (o : Shown) → f ≡ plan_fetches l p → g ≡ fetch_of f p.place
-        → x ≡ request_in (requests l.ex_mem) → o ≡ origins_in p.step l
+    fetches_lem : (f : Bool) → f ≡ plan_fetches l p → then_some f p.place ≡ fetch_wanted s
+    unfolding fetch_wanted
+    fetches_lem f ef = rw (ef, want_fetch_lem, fetch_at_lem)
+
+    pub plan_wants : (f : Bool) (g : Option Place) (x : Option Request) (o : Option Origins) → f ≡ plan_fetches l p
+        → g ≡ then_some f p.place → x ≡ request_in (requests l.ex_mem) → o ≡ origins_in p.step l
         → record { fetch = g; request = x; special = p.inquiry; origins = o } ≡ wanted s
     plan_wants f g x o ef eg ex eo =
-        wants_of f g x p.inquiry o (ef ∙ want_fetch_lem) (rw fetch_at_lem at eg) ex want_special_lem
-        (eo ∙ sym (shows_by p.step frees))
+        wants_of g x p.inquiry o (eg ∙ fetches_lem f ef) ex want_special_lem (eo ∙ sym (shows_by p.step frees))
 
-    pub plan_code : (t : Given) (k : ℕ) (f d : Bool) → f ≡ plan_fetches l p → d ≡ loads_in l
-        → k ≡ code_of (given_tests f p.place.mode d p.inquiry t) → k ≡ tick_code s t
-    unfolding tick_code
-    plan_code t k f d ef ed ek = rw (ek, ef, ed, want_fetch_lem, want_load_lem, want_special_lem, fetch_at_lem)
+    pub plan_given : (t : Given) (f d : Bool) (g : Option Place) → f ≡ plan_fetches l p → d ≡ loads_in l
+        → g ≡ then_some f p.place
+        → given_tests g d p.inquiry t ≡ wanted_tests s t
+    unfolding wanted_tests
+    plan_given t f d g ef ed eg = rw (eg, fetches_lem f ef, ed, want_load_lem, want_special_lem)
 
     pub plan_next : (a : Stages) (c : Counters) (x y : Taken) → a ≡ advance_plan p l rs x
         → c ≡ unless_full s.counts (counted p.step (count_retired l.mem_wb.valid s.counts)) → x ≡ y

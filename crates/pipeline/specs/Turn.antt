@@ -1,15 +1,15 @@
 -- The tick that answers what is asked from a fixed program.
-use Rattle.std.specs.Prelude.{ℕ, cond}
+use Rattle.std.specs.Prelude.{ℕ, cond, None, Some}
 use Rattle.isa.specs.Inquiries.{look_up}
 use Rattle.isa.specs.Machine.{Source}
 use Rattle.stages.specs.Loads.{want_load}
 use Rattle.pipeline.specs.Ask.{fetch_at, want_fetch, want_special}
-use Rattle.pipeline.specs.Names.{Given, Instr, NoAnswer, Nothing, PipelineCpu, Word}
+use Rattle.pipeline.specs.Names.{Given, PipelineCpu}
 
 -- a tick made by asking, answered from a source; v is the answer of a load
 unfoldable pub reply : Source → ℕ → PipelineCpu → Given
 reply src v s = record {
-  offer = cond (want_fetch s) (Instr (src.raw (fetch_at s).pc (fetch_at s).mode)) Nothing;
-  answer = cond (want_load s.stages) (Word v) NoAnswer;
+  offer = cond (want_fetch s) (Some (src.raw (fetch_at s).pc (fetch_at s).mode)) None;
+  answer = cond (want_load s.stages) (Some v) None;
   special = look_up src.table (want_special s);
 }

@@ -1,49 +1,32 @@
 // Asking beforehand.
-ghost use Rattle.std.specs.Prelude.{false, true, ◌≡◌};
+ghost use Rattle.std.specs.Prelude.{Ok, false, true, ◌≡◌};
 ghost use Rattle.stages.specs.Advance.{awake};
 ghost use Rattle.stages.specs.Counting.{counter_full};
 ghost use Rattle.stages.specs.Move.{is_wait};
-ghost use Rattle.pipeline.specs.Ask.{ask, fetch_of, origins_in, wanted};
+ghost use Rattle.pipeline.specs.Ask.{ask, origins_in, wanted};
 
-use crate::{Asked, Fetch, PipelineCpu, Shown, Wanted};
-use isa::{Inquiry, Request};
+use crate::{PipelineCpu, Wanted};
+use origin::Origins;
 use origin::choice::origins_of;
-use stages::{Move, Place, Stages};
-
-#[tactic(auto, unfolding(crate::specs::Ask::fetch_of))]
-fn fetch_of(fetches: bool, place: Place) -> Fetch
-    ensures { result ≡ fetch_of fetches place }
-{
-    if fetches {
-        let mode = place.mode;
-        return Fetch::From(place.pc, mode);
-    }
-    Fetch::None
-}
+use refusal::Refusal;
+use stages::{Move, Stages};
 
 #[tactic(auto, unfolding(stages::specs::Move::is_wait))]
 fn is_wait(step: Move) -> bool
     ensures { result ≡ is_wait step }
 {
-    match step {
-        Move::KeepWaiting => true,
-        Move::BeginWait => true,
-        Move::LoadUseStall(_) => false,
-        Move::Proceed => false,
-        Move::Redirect(_, _) => false,
-    }
+    matches!(step, Move::KeepWaiting | Move::BeginWait)
 }
 
 // The origins that the execution of a move passes on.
 #[tactic(auto, unfolding(crate::specs::Ask::origins_in, stages::specs::Forwarding::origins_for))]
-fn origins_in(step: Move, l: Stages) -> Shown
+fn origins_in(step: Move, l: Stages) -> Option<Origins>
     ensures { result ≡ origins_in step l }
 {
-    let d = l.id_ex;
-    if is_wait(step) | !d.valid {
-        return Shown::None;
+    if is_wait(step) | !l.id_ex.valid {
+        return None;
     }
-    Shown::Both(origins_of(l.ex_mem, l.mem_wb, d))
+    Some(origins_of(l.ex_mem, l.mem_wb, l.id_ex))
 }
 
 impl PipelineCpu {
@@ -54,46 +37,37 @@ impl PipelineCpu {
         ensures { result ≡ wanted self }
     {
         let mut reg = self.reg;
-        let l = self.stages;
-        let s = l.retire(&mut reg);
-        let x = s.ex_mem;
+        let s = self.stages.retire(&mut reg);
         if s.waits_on() {
             return Wanted {
-                fetch: Fetch::None,
-                request: x.request(),
-                special: Inquiry::None,
-                origins: Shown::None,
+                fetch: None,
+                request: s.ex_mem.request(),
+                special: None,
+                origins: None,
             };
         }
         let plan = s.plan(&reg);
-        let place = plan.place;
-        let special = plan.inquiry;
-        let step = plan.step;
         Wanted {
-            fetch: fetch_of(s.fetches(plan), place),
-            request: x.request(),
-            special,
-            origins: origins_in(step, s),
+            fetch: s.fetches(plan).then_some(plan.place),
+            request: s.ex_mem.request(),
+            special: plan.inquiry,
+            origins: origins_in(plan.step, s),
         }
     }
 
     // The fetch, the request, the special register and the origins of the next tick, or refusal 11, 12 or 13.
-    pub fn ask(self) -> Asked
+    pub fn ask(self) -> Result<Wanted, Refusal>
         ensures { result ≡ ask self }
     {
-        let l = self.stages;
-        let k = self.state_code(l.is_faulty());
-        if 0 < k {
-            return Asked::Refused(k);
+        self.check()?;
+        if self.stages.is_awake() {
+            return Ok(self.wants());
         }
-        if l.is_awake() {
-            return Asked::Wants(self.wants());
-        }
-        Asked::Wants(Wanted {
-            fetch: Fetch::None,
-            request: Request::None,
-            special: Inquiry::None,
-            origins: Shown::None,
+        Ok(Wanted {
+            fetch: None,
+            request: None,
+            special: None,
+            origins: None,
         })
     }
 }

@@ -24,9 +24,10 @@ mod refusals;
 mod start;
 mod tick;
 
-use isa::{Inquiry, Mode, RawInstr, Redirect, Request, Special};
-use latch::{ExMem, IdEx};
+use isa::{Place, RawInstr, Request};
+use latch::ExMem;
 use origin::{Origin, Origins};
+use refusal::Refusal;
 use stages::{Counters, Stages};
 
 // The state: registers, stages, counters.
@@ -37,119 +38,43 @@ pub struct PipelineCpu {
     pub counts: Counters,
 }
 
-// What the caller offers for a fetch: Nothing, or a Normal or Short instruction.
-#[derive(Clone, Copy)]
-pub enum Offer {
-    Nothing,
-    Instr(RawInstr),
-}
-
-// The answer to a load, or none.
-#[derive(Clone, Copy)]
-pub enum Answer {
-    None,
-    Word(u32),
-}
-
-// What a tick is given.
+// What a tick is given: an instruction offered for a fetch, the answer to a load, and what is said of a special register
+// (that there is none, or its word), each where it is given.
 #[derive(Clone, Copy)]
 pub struct Given {
-    pub offer: Offer,
-    pub answer: Answer,
-    pub special: Special,
-}
-
-// How a tick ended.
-#[derive(Clone, Copy)]
-pub enum Outcome {
-    Accepted,
-    Refused(u32),
+    pub offer: Option<RawInstr>,
+    pub answer: Option<u32>,
+    pub special: Option<Option<u32>>,
 }
 
 // The state handed back by a tick: the next one, or the very state given where the tick was refused.
 #[derive(Clone, Copy)]
 pub struct Ticked {
     pub state: PipelineCpu,
-    pub outcome: Outcome,
+    pub outcome: Result<(), Refusal>,
 }
 
-// The place that a tick fetches from.
-#[derive(Clone, Copy)]
-pub enum Fetch {
-    None,
-    From(u32, Mode),
-}
-
-// The origins that a tick's execution will pass on, or none.
-#[derive(Clone, Copy)]
-pub enum Shown {
-    None,
-    Both(Origins),
-}
-
-// What a tick will want, and the origins that its execution will pass on.
+// What a tick will want: the place to fetch from, a load or store, a special register; and the origins that its
+// execution will pass on.
 #[derive(Clone, Copy)]
 pub struct Wanted {
-    pub fetch: Fetch,
-    pub request: Request,
-    pub special: Inquiry,
-    pub origins: Shown,
+    pub fetch: Option<Place>,
+    pub request: Option<Request>,
+    pub special: Option<u16>,
+    pub origins: Option<Origins>,
 }
 
-// The answer of asking.
+// A value as EX sees it, and its origin.
 #[derive(Clone, Copy)]
-pub enum Asked {
-    Refused(u32),
-    Wants(Wanted),
-}
-
-// The answer of `forwarded` by itself: a value and its origin.
-#[derive(Clone, Copy)]
-pub enum Forwarded {
-    Refused(u32),
-    Word(u32, Origin),
+pub struct Forwarded {
+    pub word: u32,
+    pub origin: Origin,
 }
 
 // The next EX/MEM of a latch, the way that its instruction goes, and the origins of its operands.
 #[derive(Clone, Copy)]
 pub struct Execution {
     pub ex_mem: ExMem,
-    pub redirect: Redirect,
+    pub redirect: Option<Place>,
     pub origins: Origins,
-}
-
-// The answer of `execute_ex` by itself.
-#[derive(Clone, Copy)]
-pub enum Executed {
-    Refused(u32),
-    Done(Execution),
-}
-
-// The answer of `decode_id` by itself.
-#[derive(Clone, Copy)]
-pub enum DecodedId {
-    Refused(u32),
-    Latch(IdEx),
-}
-
-// The answer of `id_sources` by itself.
-#[derive(Clone, Copy)]
-pub enum Sources {
-    Refused(u32),
-    Two(u8, u8),
-}
-
-// The answer of `is_mul_div` by itself.
-#[derive(Clone, Copy)]
-pub enum MulDiv {
-    Refused(u32),
-    None,
-    Latency(u32),
-}
-
-// The answer of `load_use_hazard` by itself.
-#[derive(Clone, Copy)]
-pub enum Hazard {
-    Refused(u32),
-    Waits(bool),
 }

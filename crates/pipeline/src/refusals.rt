@@ -1,104 +1,92 @@
-// Refusals, as numbers: 0 where none applies.
+// Refusals of a state and of what a tick is given.
 ghost use Rattle.std.specs.Prelude.{◌≡◌};
-ghost use Rattle.pipeline.specs.Refusals.{code_of, state_tests};
-ghost use Rattle.pipeline.specs.Tick.{fits_offer, fits_special, given_tests, is_answer, offer_code, same};
+ghost use Rattle.stages.specs.Refusals.{faulty};
+ghost use Rattle.pipeline.specs.Refusals.{checked, state_tests};
+ghost use Rattle.pipeline.specs.Tick.{fits_offer, fits_special, given_tests, handed_back};
 
-use crate::{Answer, Given, Offer, PipelineCpu};
-use isa::{Inquiry, Mode, Special};
+use crate::{Given, PipelineCpu, Ticked};
+use isa::{Place, RawInstr};
+use refusal::Refusal;
 
 impl PipelineCpu {
-    // 11, 12 or 13; whether 12 applies is told by the caller.
-    #[tactic(auto, unfolding(crate::specs::Refusals::state_tests, crate::specs::Refusals::code_of))]
-    pub(crate) fn state_code(self, faulty: bool) -> u32
-        ensures { result ≡ code_of (state_tests faulty self) }
+    // 11, 12 or 13.
+    #[tactic(auto, unfolding(crate::specs::Refusals::state_tests, crate::specs::Refusals::verdict))]
+    pub(crate) fn check(self) -> Result<(), Refusal>
+        ensures { result ≡ checked (state_tests (faulty self.stages) self) }
     {
-        let l = self.stages;
-        let c = self.counts;
-        if l.out_of_bounds() {
-            return 11;
+        if self.stages.out_of_bounds() {
+            return Err(Refusal::OutOfBounds);
         }
-        if faulty {
-            return 12;
+        if self.stages.is_faulty() {
+            return Err(Refusal::Faulty);
         }
-        if c.is_full() {
-            return 13;
+        if self.counts.is_full() {
+            return Err(Refusal::CounterFull);
         }
-        0
+        Ok(())
+    }
+
+    // The next state, or the very state given where it was refused.
+    #[tactic(auto, unfolding(crate::specs::Tick::handed_back))]
+    pub(crate) fn handed_back(self, next: Result<PipelineCpu, Refusal>) -> Ticked
+        ensures { result ≡ handed_back next self }
+    {
+        match next {
+            Ok(state) => Ticked {
+                state,
+                outcome: Ok(()),
+            },
+            Err(refusal) => Ticked {
+                state: self,
+                outcome: Err(refusal),
+            },
+        }
     }
 }
 
-// 1.
-#[tactic(auto, unfolding(crate::specs::Tick::offer_code))]
-fn offer_code(offer: Offer) -> u32
-    ensures { result ≡ offer_code offer }
-{
-    let Offer::Instr(raw) = offer else {
-        return 0;
-    };
-    raw.code()
-}
-
-// An offer of the mode that is wanted, or Nothing where no fetch is.
+// An offer of the mode that is wanted, or none where no fetch is.
 #[tactic(auto, unfolding(crate::specs::Tick::fits_offer))]
-fn fits_offer(fetch: bool, mode: Mode, offer: Offer) -> bool
-    ensures { result ≡ fits_offer fetch mode offer }
+fn fits_offer(fetch: Option<Place>, offer: Option<RawInstr>) -> bool
+    ensures { result ≡ fits_offer fetch offer }
 {
-    let Offer::Instr(raw) = offer else {
-        return !fetch;
-    };
-    fetch & raw.is_of(mode)
-}
-
-#[tactic(auto, unfolding(crate::specs::Tick::is_answer))]
-fn is_answer(answer: Answer) -> bool
-    ensures { result ≡ is_answer answer }
-{
-    let Answer::Word(_) = answer else {
-        return false;
-    };
-    true
-}
-
-#[tactic(auto, unfolding(crate::specs::Tick::same))]
-fn same(a: bool, b: bool) -> bool
-    ensures { result ≡ same a b }
-{
-    if a {
-        return b;
+    match (fetch, offer) {
+        (Some(place), Some(raw)) => raw.is_of(place.mode),
+        (None, None) => true,
+        _ => false,
     }
-    !b
 }
 
 // Something is said exactly where a special register is asked for.
-#[tactic(auto, unfolding(crate::specs::Tick::fits_special))]
-pub(crate) fn fits_special(inquiry: Inquiry, special: Special) -> bool
+#[tactic(auto, unfolding(crate::specs::Tick::fits_special, crate::specs::Tick::same))]
+pub(crate) fn fits_special(inquiry: Option<u16>, special: Option<Option<u32>>) -> bool
     ensures { result ≡ fits_special inquiry special }
 {
-    same(inquiry.is_some(), special.is_some())
+    inquiry.is_some() == special.is_some()
 }
 
 impl Given {
-    // 1, 3, 4 or 10.
-    #[tactic(auto, unfolding(crate::specs::Tick::given_tests, crate::specs::Refusals::code_of))]
-    pub(crate) fn code(self, fetch: bool, mode: Mode, load: bool, inquiry: Inquiry) -> u32
-        ensures { result ≡ code_of (given_tests fetch mode load inquiry self) }
+    // 1, 3, 4 or 10; what is wanted is a fetch, a load, a special register.
+    #[tactic(auto, unfolding(crate::specs::Tick::given_tests, crate::specs::Refusals::verdict, crate::specs::Tick::same, crate::specs::Tick::ok_offer))]
+    pub(crate) fn check(
+        self,
+        fetch: Option<Place>,
+        load: bool,
+        inquiry: Option<u16>,
+    ) -> Result<(), Refusal>
+        ensures { result ≡ checked (given_tests fetch load inquiry self) }
     {
-        let offer = self.offer;
-        let answer = self.answer;
-        let special = self.special;
-        let k = offer_code(offer);
-        if 0 < k {
-            return k;
+        if !self.offer.is_none_or(|raw| raw.in_bounds()) {
+            return Err(Refusal::BadRegister);
         }
-        if !fits_offer(fetch, mode, offer) {
-            return 3;
+        if !fits_offer(fetch, self.offer) {
+            return Err(Refusal::BadOffer);
         }
-        if !same(load, is_answer(answer)) {
-            return 4;
+        if load != self.answer.is_some() {
+            return Err(Refusal::BadAnswer);
         }
-        if !fits_special(inquiry, special) {
-            return 10;
+        if !fits_special(inquiry, self.special) {
+            return Err(Refusal::BadSpecial);
         }
-        0
+        Ok(())
     }
 }

@@ -3,9 +3,9 @@ ghost use Rattle.std.specs.Prelude.{◌≡◌};
 ghost use Rattle.pipeline.specs.Start.{fresh};
 
 use crate::PipelineCpu;
-use isa::Start;
+use isa::{Place, Start};
 use latch::{ExMem, IdEx, IfId, MemWb};
-use stages::{Counters, Place, Stages};
+use stages::{Counters, Stages};
 
 impl PipelineCpu {
     // The state that a program starts in: R0 becomes 0, latches are empty, no wait, running, counters 0.
@@ -15,13 +15,15 @@ impl PipelineCpu {
     {
         let mut reg = v.reg;
         reg[0] = 0;
-        let pc = v.pc;
-        let mode = v.mode;
+        let at = Place {
+            pc: v.pc,
+            mode: v.mode,
+        };
         PipelineCpu {
             reg,
             stages: Stages {
-                fetch_at: Place { pc, mode },
-                retire_at: Place { pc, mode },
+                fetch_at: at,
+                retire_at: at,
                 running: true,
                 user: v.user,
                 features: v.features,

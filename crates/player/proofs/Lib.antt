@@ -1,6 +1,6 @@
-pub mod Table
-pub mod Loop
 pub mod Plays
+pub mod Kept
+pub mod Loop
 pub mod Rows
 pub mod Without
 pub mod Claims

@@ -16,30 +16,17 @@ use Rattle.player.specs.Names.{Decoded, PlayHalted, PlayLoads, PlaySpent, PlaySt
 use Rattle.player.specs.Player.{Play, ended, loads_in, more, play, play_by}
 
 -- a play by its first turn
-play_spent : (g : Program) (w : Arch) → play g zero false w ≡ ended PlaySpent w
-unfolding play
-play_spent g w = refl
-
 pub play_halted : (g : Program) (n : ℕ) (w : Arch) → play g n true w ≡ ended PlayHalted w
 unfolding play
 play_halted g zero w = refl
 play_halted g (suc n) w = refl
 
-play_stops : (g : Program) (n : ℕ) (w : Arch) → stops_at g (instruction_at g w) w ≡ true
-    → play g (suc n) false w ≡ ended (cond (is_barred (effect_at g (instruction_at g w) w)) PlayStopped PlayLoads) w
-unfolding play play_by
-play_stops g n w b = rw b
-
-pub play_does : (g : Program) (n : ℕ) (w : Arch) → stops_at g (instruction_at g w) w ≡ false
+play_does : (g : Program) (n : ℕ) (w : Arch) → stops_at g (instruction_at g w) w ≡ false
     → play g (suc n) false w
     ≡ more (instruction_at g w) (play g n (effect_at g (instruction_at g w) w).marks.halt
     (step_by g (instruction_at g w) w))
 unfolding play play_by
 play_does g n w b = rw b
-
--- no two ends are equal
-not_ends : {C : Type 0} → ◌≡◌ {A = ℕ} 0 1 → C
-not_ends e = absurd (omega arith)
 
 -- the answers behind the first
 rest_length : (l : List ℕ) → is_empty l ≡ false → length l ≡ suc (length (rest l))
@@ -142,14 +129,13 @@ module _ (g : Program) (w₀ : Arch) where
       split (is_barred (effect_at g (instruction_at g (machine g w₀ k).arch) (machine g w₀ k).arch))
       (λ e. rw e (
         k,
-        ends_here (suc n) k PlayStopped d (λ z. not_ends cc) (λ z. not_ends cc) (λ z. (u, e)) (λ z. not_ends
-            cc),
+        ends_here (suc n) k PlayStopped d (λ z. cc) (λ z. cc) (λ z. (u, e)) (λ z. cc),
       ))
       (λ e.
       let z = dry _ _ _ b e in
       rw e (
         k,
-        ends_here (suc n) k PlayLoads d (λ z. not_ends cc) (λ z. not_ends cc) (λ z. not_ends cc)
+        ends_here (suc n) k PlayLoads d (λ z. cc) (λ z. cc) (λ z. cc)
             (λ y. (u, e, z.0, z.1)),
       ))
 
@@ -177,29 +163,19 @@ module _ (g : Program) (w₀ : Arch) where
             (step_by g i m.arch).answers) (not_not (effect_at g i m.arch).marks.halt) z.1),
       )
 
-  -- the same of an equal play
-  equal_play : (n k : ℕ) (p q : Play) (l : List ℕ) → q ≡ p → (N : ℕ) × On n k N p l → (N : ℕ) × On n k N q l
-  equal_play n k p q l e x = (x.0, subst (λ (y : Play). On n k x.0 y l) (sym e) x.1)
-
   -- the play from the machine that has done k instructions
   on : (n k : ℕ) → (machine g w₀ k).done ≡ k
       → (N : ℕ)
       × On n k N (play g n (not (machine g w₀ k).runs) (machine g w₀ k).arch) (machine g w₀ k).arch.answers
+  unfolding play play_by
   on zero k d = split (machine g w₀ k).runs
-      (λ u. equal_play zero k _ _ _ (ap (λ (b : Bool). play g zero (not b) (machine g w₀ k).arch) u ∙ play_spent g _)
-      (k, ends_here zero k PlaySpent d (λ e. not_ends cc) (λ e. (u, refl)) (λ e. not_ends cc) (λ e. not_ends cc)))
-      (λ u. equal_play zero k _ _ _ (ap (λ (b : Bool). play g zero (not b) (machine g w₀ k).arch) u
-      ∙ play_halted g zero _)
-      (k, ends_here zero k PlayHalted d (λ e. u) (λ e. not_ends cc) (λ e. not_ends cc) (λ e. not_ends cc)))
+      (λ u. rw u (k, ends_here zero k PlaySpent d (λ e. cc) (λ e. (u, refl)) (λ e. cc) (λ e. cc)))
+      (λ u. rw u (k, ends_here zero k PlayHalted d (λ e. u) (λ e. cc) (λ e. cc) (λ e. cc)))
   on (suc n) k d = split (machine g w₀ k).runs
       (λ u. split (stops_at g (instruction_at g (machine g w₀ k).arch) (machine g w₀ k).arch)
-      (λ b. equal_play (suc n) k _ _ _ (ap (λ (c : Bool). play g (suc n) (not c) (machine g w₀ k).arch) u
-      ∙ play_stops g n _ b) (stops_here n k d u b))
-      (λ b. equal_play (suc n) k _ _ _ (ap (λ (c : Bool). play g (suc n) (not c) (machine g w₀ k).arch) u
-      ∙ play_does g n _ b) (goes_on n k d u b (on n (suc k)))))
-      (λ u. equal_play (suc n) k _ _ _ (ap (λ (c : Bool). play g (suc n) (not c) (machine g w₀ k).arch) u
-      ∙ play_halted g (suc n) _)
-      (k, ends_here (suc n) k PlayHalted d (λ e. u) (λ e. not_ends cc) (λ e. not_ends cc) (λ e. not_ends cc)))
+      (λ b. rw (u, b) (stops_here n k d u b))
+      (λ b. rw (u, b) (goes_on n k d u b (on n (suc k)))))
+      (λ u. rw u (k, ends_here (suc n) k PlayHalted d (λ e. u) (λ e. cc) (λ e. cc) (λ e. cc)))
 
 -- every play
 pub play_is : PlayIs

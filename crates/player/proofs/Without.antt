@@ -4,7 +4,7 @@ use mathlib.Core.Bool.{Bool, cond}
 use mathlib.Core.List.{List}
 use mathlib.Core.Path.{◌∙◌, ◌≡◌, ap, refl}
 use Rattle.isa.proofs.Asks.{asks_none}
-use Rattle.isa.specs.Inquiries.{fill, is_inquiry}
+use Rattle.isa.specs.Inquiries.{fill}
 use Rattle.isa.specs.Machine.{Arch, Program, effect_at, instruction_at, open_at, program_of, step_by, stops_at}
 use Rattle.isa.specs.Machine.{value_at}
 use Rattle.sheet.specs.Sheet.{SheetWithout, sheet_source}
@@ -20,7 +20,7 @@ module _ (v : Start) (sheet t t' : List ℕ) (h : SheetWithout sheet) where
   G' = program_of (sheet_source sheet t') v
 
   effect_same : (w : Arch) → effect_at G (instruction_at G w) w ≡ effect_at G' (instruction_at G' w) w
-  unfolding effect_at open_at instruction_at program_of fill is_inquiry
+  unfolding effect_at open_at instruction_at program_of fill
   effect_same w = rw (asks_none v.user _ w.pc _ _ (h w.pc w.mode))
 
   turn_same : (w : Arch) (k : Bool → Arch → Play)

@@ -1,12 +1,12 @@
 -- The plain player: turns in the order of RULES 23.2, over the one-at-a-time machine.
-use Rattle.std.specs.Prelude.{◌+◌, suc, zero, ℕ, nat_lt, length, Bool, cond, false, List, [], ◌∷◌}
+use Rattle.std.specs.Prelude.{◌+◌, suc, zero, ℕ, length, Bool, cond, false, List, [], ◌∷◌, Result, Ok, Err, ⊤}
 use Rattle.isa.specs.Machine.{Arch, Program, arch_with, effect_at, instruction_at, is_barred, program_of, step_by}
 use Rattle.isa.specs.Machine.{stops_at}
 use Rattle.isa.specs.Operands.{operands_of}
-use Rattle.sheet.specs.Sheet.{limited_code, sheet_source}
+use Rattle.sheet.specs.Sheet.{limited_check, sheet_source}
 use Rattle.word.specs.Words.{bit}
 use Rattle.player.specs.Names.{Decoded, PlayHalted, PlayLoads, PlayRefused, PlaySpent, PlayStopped, Played}
-use Rattle.player.specs.Names.{PlayerEnd, Start}
+use Rattle.player.specs.Names.{PlayerEnd, Refusal, Start}
 
 -- a play: its end, the machine then, the instructions done in order
 pub record Play : Type 0 where
@@ -50,17 +50,21 @@ reported v p =
     record { end = p.end; values = values_of v p.arch; done = length p.did; used = loads_in p.did }
 
 -- a play refused before its first turn gives the very values that it was given
-unfoldable pub refused_play : ℕ → Start → Played
-refused_play n v = record { end = PlayRefused n; values = v; done = 0; used = 0 }
+unfoldable pub refused_play : Refusal → Start → Played
+refused_play e v = record { end = PlayRefused e; values = v; done = 0; used = 0 }
 
 -- any other takes its turns from the start's values, with R0 0
 unfoldable pub unrefused_play : Start → List ℕ → List ℕ → List ℕ → ℕ → Played
 unrefused_play v sheet answers table limit =
     reported v (play (program_of (sheet_source sheet table) v) limit false (arch_with v answers))
 
--- the player: a start's values, a sheet's bytes, load answers, a table of special registers and a limit; 6, per record
--- 5, 1, then 7
+-- a play by what is tested before its first turn; p: the play that is not refused
+unfoldable pub checked_play : Result ⊤ Refusal → Start → Played → Played
+checked_play (Ok x) v p = p
+checked_play (Err e) v p = refused_play e v
+
+-- the player: a start's values, a sheet's bytes, load answers, a table of special registers and a limit. What refuses a
+-- play: the sheet's length, per record its command and unused bytes and then its registers, then the limit
 unfoldable pub played : Start → List ℕ → List ℕ → List ℕ → ℕ → Played
 played v sheet answers table limit =
-    cond (nat_lt 0 (limited_code sheet limit)) (refused_play (limited_code sheet limit) v)
-    (unrefused_play v sheet answers table limit)
+    checked_play (limited_check sheet limit) v (unrefused_play v sheet answers table limit)

@@ -2,8 +2,8 @@
 use Rattle.std.specs.Prelude.{ℕ, slice_index, replicate, true, List, [], ◌∷◌, ◌≡◌}
 use Rattle.isa.specs.Machine.{zero_start}
 use Rattle.sheet.specs.Samples.{mfsr_sheet, mfsr_table}
-use Rattle.player.specs.Names.{PlayHalted, PlayLoads, PlayRefused, PlaySpent, PlayStopped, Played, PlayerEnd}
-use Rattle.player.specs.Names.{Start}
+use Rattle.player.specs.Names.{BadCommand, BadLength, BadLimit, BadRegister, PlayHalted, PlayLoads, PlayRefused}
+use Rattle.player.specs.Names.{PlaySpent, PlayStopped, Played, PlayerEnd, Start}
 use Rattle.player.specs.Player.{played}
 
 -- the end; instructions done, answers used, the address, R0 and register r
@@ -60,16 +60,16 @@ pub record Rows : Type 0 where
   pub iret : row (behind (0x03 ∷ 0x00 ∷ 0x00 ∷ 0x00 ∷ 0x00 ∷ [])) 9 [] 1 ≡ (PlayStopped, 1 ∷ 0 ∷ 4 ∷ 0 ∷ 7 ∷ [])
   pub syscall : row (behind (0x54 ∷ 0x00 ∷ 0x00 ∷ 0x00 ∷ 0x01 ∷ [])) 9 [] 1 ≡ (PlayStopped, 1 ∷ 0 ∷ 4 ∷ 0 ∷ 7 ∷ [])
   pub unknown : row (behind (0x60 ∷ 0x00 ∷ 0x00 ∷ 0x00 ∷ 0x00 ∷ [])) 9 [] 1 ≡ (PlayStopped, 1 ∷ 0 ∷ 4 ∷ 0 ∷ 7 ∷ [])
-  -- 7, behind 6 and the records
+  -- the limit, behind the length and the records
   pub most : row halt_sheet 1000000 [] 0 ≡ (PlayHalted, 1 ∷ 0 ∷ 4 ∷ 0 ∷ 0 ∷ [])
-  pub over : row halt_sheet 1000001 [] 0 ≡ (PlayRefused 7, 0 ∷ 0 ∷ 0 ∷ 0 ∷ 0 ∷ [])
-  pub length : row (0x02 ∷ []) 1000001 [] 0 ≡ (PlayRefused 6, 0 ∷ 0 ∷ 0 ∷ 0 ∷ 0 ∷ [])
+  pub over : row halt_sheet 1000001 [] 0 ≡ (PlayRefused BadLimit, 0 ∷ 0 ∷ 0 ∷ 0 ∷ 0 ∷ [])
+  pub length : row (0x02 ∷ []) 1000001 [] 0 ≡ (PlayRefused BadLength, 0 ∷ 0 ∷ 0 ∷ 0 ∷ 0 ∷ [])
   pub record5 : row (behind (0x04 ∷ 0x00 ∷ 0x00 ∷ 0x00 ∷ 0x00 ∷ [])) 1000001 [] 0
-      ≡ (PlayRefused 5, 0 ∷ 0 ∷ 0 ∷ 0 ∷ 0 ∷ [])
+      ≡ (PlayRefused BadCommand, 0 ∷ 0 ∷ 0 ∷ 0 ∷ 0 ∷ [])
   pub record1 : row (behind (0x20 ∷ 0x20 ∷ 0x00 ∷ 0x00 ∷ 0x00 ∷ [])) 1000001 [] 0
-      ≡ (PlayRefused 1, 0 ∷ 0 ∷ 0 ∷ 0 ∷ 0 ∷ [])
+      ≡ (PlayRefused BadRegister, 0 ∷ 0 ∷ 0 ∷ 0 ∷ 0 ∷ [])
   -- R0's field comes back where the play is refused, and is 0 where it is played
-  pub nine_refused : seen 1 (played nine_start halt_sheet [] [] 1000001) ≡ (PlayRefused 7, 0 ∷ 0 ∷ 0 ∷ 9 ∷ 5 ∷ [])
+  pub nine_refused : seen 1 (played nine_start halt_sheet [] [] 1000001) ≡ (PlayRefused BadLimit, 0 ∷ 0 ∷ 0 ∷ 9 ∷ 5 ∷ [])
   pub nine_played : seen 1 (played nine_start halt_sheet [] [] 1) ≡ (PlayHalted, 1 ∷ 0 ∷ 4 ∷ 0 ∷ 5 ∷ [])
   -- an answer is used once: LD R5,R0+8; LD R6,R0+8; HALT
   pub twice : row (0x21 ∷ 0x05 ∷ 0x00 ∷ 0x00 ∷ 0x08 ∷ 0x21 ∷ 0x06 ∷ 0x00 ∷ 0x00 ∷ 0x08 ∷ halt_sheet) 9 (21 ∷ 22 ∷ []) 6

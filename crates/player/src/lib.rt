@@ -7,28 +7,28 @@
 // R0 as it was handed in (r0_kept); a refusal with R0 put to 0; an MFSR outside its table done.
 #![tactic(auto)]
 
-ghost use Rattle.std.specs.Prelude.{◌≤◌, cond, ◌≡◌, slice_index};
-ghost use Rattle.player.specs.Inner.{played_to};
-ghost use Rattle.player.specs.Names.{PlayLoads, PlayStopped};
+ghost use Rattle.std.specs.Prelude.{◌≡◌, cond, slice_index};
+ghost use Rattle.player.specs.Inner.{stop_of, values_at};
 ghost use Rattle.player.specs.Player.{played, unrefused_play};
 
 mod slots;
 mod step;
 
-use crate::slots::place_of;
-use crate::step::{is_barred, write};
-use isa::{Decoded, Effect, Mode, Operands, Start};
+use crate::slots::{SLOTS, slot_in};
+use crate::step::{is_barred, next, write};
+use isa::{Decoded, Effect, Mode, Place, Start};
+use refusal::Refusal;
 use sheet::answers::{answer_at, used_after};
 use sheet::check::check_limited;
 
 // How a play ends.
-#[derive(Clone, Copy)]
+#[derive(Clone, Copy, Debug, PartialEq, Eq)]
 pub enum PlayerEnd {
     Halted,
     Spent,
     Stopped,
     Loads,
-    Refused(u32),
+    Refused(Refusal),
 }
 
 // What the player reports: the end, a start's values then, the instructions done and the load answers used.
@@ -40,23 +40,42 @@ pub struct Played {
     pub used: usize,
 }
 
-// The instruction of an address and mode, decoded, and what it names.
+impl Played {
+    // The report of a play that ends with these values and counts.
+    fn new(end: PlayerEnd, values: Start, done: u32, used: usize) -> Played
+        ensures { result ≡ record { end = end; values = values; done = done; used = used } }
+    {
+        Played {
+            end,
+            values,
+            done,
+            used,
+        }
+    }
+}
+
+// The instruction of an address and mode, decoded, with its sources and destination, and whether it loads.
 #[derive(Clone, Copy)]
 pub struct Slot {
     pub pc: u32,
     pub mode: Mode,
     pub instr: Decoded,
-    pub operands: Operands,
+    pub src_a: u8,
+    pub src_b: u8,
+    pub dest: Option<u8>,
+    pub is_load: bool,
 }
 
-// How a play ends at an instruction that stops it.
-fn stop_of(barred: bool) -> PlayerEnd
-    ensures { result ≡ cond barred PlayStopped PlayLoads }
+// How a play ends at an instruction that stops it: a barred one, or a load with no answer left (`dry`). None: it is
+// done.
+#[tactic(auto, unfolding(crate::specs::Inner::stop_of))]
+fn stop_of(e: Effect, loads: bool, dry: bool) -> Option<PlayerEnd>
+    ensures { result ≡ stop_of e loads dry }
 {
-    if barred {
-        return PlayerEnd::Stopped;
+    if is_barred(e) {
+        return Some(PlayerEnd::Stopped);
     }
-    PlayerEnd::Loads
+    (loads && dry).then_some(PlayerEnd::Loads)
 }
 
 // The word that an instruction's destination gets: of a load, the next answer.
@@ -64,95 +83,63 @@ fn value_of(loads: bool, e: Effect, answers: &[u32], used: usize) -> u32
     ensures { result ≡ cond loads (slice_index answers.now used) e.alu.value }
 {
     if loads {
-        return answer_at(answers, used);
+        answer_at(answers, used)
+    } else {
+        e.alu.value
     }
-    let alu = e.alu;
-    alu.value
 }
 
-// The report of a play that ends here.
-#[tactic(auto, unfolding(crate::specs::Inner::played_to))]
-fn report(
-    end: PlayerEnd,
-    v: Start,
-    reg: [u32; 32],
-    pc: u32,
-    mode: Mode,
-    done: u32,
-    used: usize,
-) -> Played
-    ensures { result ≡ played_to end v reg pc mode done used }
+// A start's values, with these registers, address and mode.
+#[tactic(auto, unfolding(crate::specs::Inner::values_at))]
+fn values_at(start: Start, reg: [u32; 32], at: Place) -> Start
+    ensures { result ≡ values_at start reg at }
 {
-    let values = Start {
+    Start {
         reg,
-        pc,
-        mode,
-        user: v.user,
-        features: v.features,
-    };
-    Played {
-        end,
-        values,
-        done,
-        used,
+        pc: at.pc,
+        mode: at.mode,
+        ..start
     }
 }
 
 // The turns of a play that was not refused before its first.
-#[tactic(auto, unfolding(crate::specs::Inner::place_of))]
-fn turns(v: Start, sheet: &[u8], answers: &[u32], table: &[u32], limit: u32) -> Played
-    requires { limit ≤ 1000000 }
-    ensures { result ≡
-        unrefused_play v sheet.now answers.now table.now limit }
+fn turns(start: Start, sheet: &[u8], answers: &[u32], table: &[u32], limit: u32) -> Played
+    ensures { result ≡ unrefused_play start sheet.now answers.now table.now limit }
 {
-    let mut reg = v.reg;
+    let mut reg = start.reg;
     reg[0] = 0;
-    let mut pc = v.pc;
-    let mut mode = v.mode;
-    let mut slots = [Slot::at(sheet, pc, mode); 512];
+    let mut at = Place {
+        pc: start.pc,
+        mode: start.mode,
+    };
+    let mut slots = [Slot::at(sheet, at); SLOTS];
+    // The count is kept, and not the answers left, since the report has it.
     let mut used: usize = 0;
-    let mut done: u32 = 0;
-    while done < limit {
-        let k = place_of(pc);
-        let s = slots[k];
-        if !s.is_at(pc, mode) {
-            slots[k] = Slot::at(sheet, pc, mode);
-            continue;
+    for done in 0..limit {
+        let s = slot_in(&mut slots, sheet, at);
+        let e = s.effect(start.user, table, &reg);
+        if let Some(end) = stop_of(e, s.is_load, answers.len() <= used) {
+            return Played::new(end, values_at(start, reg, at), done, used);
         }
-        let o = s.operands;
-        let e = s.effect(v.user, table, &reg);
-        let barred = is_barred(e);
-        if barred | (o.is_load & (answers.len() <= used)) {
-            return report(stop_of(barred), v, reg, pc, mode, done, used);
-        }
-        let value = value_of(o.is_load, e, answers, used);
-        write(e, o, value, v.features, &mut reg);
-        used = used_after(o.is_load, used, answers.len());
-        let r = e.redirect;
-        pc = r.target_or(mode.fall(pc));
-        mode = r.mode_or(mode);
-        done += 1;
-        let m = e.marks;
-        if m.halt {
-            return report(PlayerEnd::Halted, v, reg, pc, mode, done, used);
+        let value = value_of(s.is_load, e, answers, used);
+        write(e, s.dest, value, start.features, &mut reg);
+        used = used_after(s.is_load, used, answers.len());
+        at = next(e, at);
+        if e.marks.halt {
+            let values = values_at(start, reg, at);
+            return Played::new(PlayerEnd::Halted, values, done + 1, used);
         }
     }
-    report(PlayerEnd::Spent, v, reg, pc, mode, done, used)
+    Played::new(PlayerEnd::Spent, values_at(start, reg, at), limit, used)
 }
 
 // Plays a sheet from a start's values to its end; `table` has the words of the special registers.
-#[tactic(auto, unfolding(crate::specs::Player::played, crate::specs::Player::refused_play))]
+#[tactic(auto, unfolding(crate::specs::Player::played, crate::specs::Player::checked_play, crate::specs::Player::refused_play))]
 pub fn play(start: Start, sheet: &[u8], answers: &[u32], table: &[u32], limit: u32) -> Played
     ensures { result ≡ played start sheet.now answers.now table.now limit }
 {
-    let k = check_limited(sheet, limit);
-    if 0 < k {
-        return Played {
-            end: PlayerEnd::Refused(k),
-            values: start,
-            done: 0,
-            used: 0,
-        };
+    match check_limited(sheet, limit) {
+        Ok(()) => turns(start, sheet, answers, table, limit),
+        Err(e) => Played::new(PlayerEnd::Refused(e), start, 0, 0),
     }
-    turns(start, sheet, answers, table, limit)
 }

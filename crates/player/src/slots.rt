@@ -1,37 +1,34 @@
 // Instructions kept decoded, so that a loop decodes each of its instructions once.
-ghost use Rattle.std.specs.Prelude.{◌≡◌};
-ghost use Rattle.player.specs.Inner.{effect_in, is_at, place_of, slot_at};
+ghost use Rattle.std.specs.Prelude.{◌≡◌, All};
+ghost use Rattle.player.specs.Inner.{IsOwn, effect_in, slot_at};
 
 use crate::Slot;
 use isa::registers::read_reg;
-use isa::{Effect, Mode};
+use isa::{Effect, Place};
 use sheet::offer::offer_at;
 use sheet::specials::special_at;
 
+// How many are kept.
+pub(crate) const SLOTS: usize = 512;
+
 impl Slot {
-    // The slot of an address and mode.
-    #[tactic(auto, unfolding(crate::specs::Inner::slot_at))]
-    pub(crate) fn at(sheet: &[u8], pc: u32, mode: Mode) -> Slot
-        ensures { result ≡ slot_at sheet.now pc mode }
+    // The slot of an address and mode. It stays a call, since a play's slots are filled faster from a slot in memory.
+    #[inline(never)]
+    #[tactic(auto, unfolding(crate::specs::Inner::slot_at, crate::specs::Inner::slot_of))]
+    pub(crate) fn at(sheet: &[u8], at: Place) -> Slot
+        ensures { result ≡ slot_at sheet.now at.pc at.mode }
     {
-        let raw = offer_at(sheet, pc, mode);
-        let instr = raw.decoded();
+        let instr = offer_at(sheet, at).decoded();
         let operands = instr.operands();
         Slot {
-            pc,
-            mode,
+            pc: at.pc,
+            mode: at.mode,
             instr,
-            operands,
+            src_a: operands.src_a,
+            src_b: operands.src_b,
+            dest: operands.dest,
+            is_load: operands.is_load,
         }
-    }
-
-    // Whether it is the slot of an address and mode.
-    #[tactic(auto, unfolding(crate::specs::Inner::is_at))]
-    pub(crate) fn is_at(self, pc: u32, mode: Mode) -> bool
-        ensures { result ≡ is_at self pc mode }
-    {
-        let own = self.mode;
-        (self.pc == pc) & (own.size() == mode.size())
     }
 
     // What its instruction does with the registers and a table of special registers.
@@ -39,20 +36,22 @@ impl Slot {
     pub(crate) fn effect(self, user: bool, table: &[u32], reg: &[u32; 32]) -> Effect
         ensures { result ≡ effect_in user table.now self reg.now }
     {
-        let i = self.instr;
-        let o = self.operands;
-        let a = read_reg(reg, o.src_a);
-        let b = read_reg(reg, o.src_b);
-        let e = i.effect(user, self.pc, a, b);
-        let inquiry = e.inquiry;
-        e.filled(special_at(table, inquiry))
+        let a = read_reg(reg, self.src_a);
+        let b = read_reg(reg, self.src_b);
+        let e = self.instr.effect(user, self.pc, a, b);
+        e.filled(special_at(table, e.inquiry))
     }
 }
 
-// Its place among the slots.
-#[tactic(auto, unfolding(crate::specs::Inner::place_of))]
-pub(crate) fn place_of(pc: u32) -> usize
-    ensures { result ≡ place_of pc }
+// The slot of an address and mode; where another stands in its place, it is put there first.
+pub(crate) fn slot_in(slots: &mut [Slot; SLOTS], sheet: &[u8], at: Place) -> Slot
+    requires { All (IsOwn sheet.now) slots.old }
+    ensures slot { result ≡ slot_at sheet.now at.pc at.mode }
+    ensures kept { All (IsOwn sheet.now) slots.new }
 {
-    (pc / 2 % 512) as usize
+    let k = at.pc as usize / 2 % SLOTS;
+    if slots[k].pc != at.pc || slots[k].mode != at.mode {
+        slots[k] = Slot::at(sheet, at);
+    }
+    slots[k]
 }

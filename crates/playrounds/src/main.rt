@@ -3,34 +3,24 @@
 // there is no special register.
 #![tactic(auto)]
 
+use bench::Given;
 use input::read_full;
 use isa::Start;
 use std::io::Result;
 
-fn total(rounds: u32, limit: u32, sheet: &[u8], answers: &[u32]) -> u64 {
-    let mut left = rounds;
-    let mut sum: u64 = 0;
-    while left > 0 {
-        let p = player::play(Start::zero(), sheet, answers, &answers[..0], limit);
-        sum = std::num::wrapping_add_u64(sum, p.done as u64);
-        left -= 1;
-    }
-    sum
-}
-
 fn play(rt: &HostRuntime, buf: &mut [u8], answers: &[u32]) -> Result<()> {
     let n = read_full(&mut rt.stdin(), buf)?;
-    if 8 <= n {
-        let rounds = bench::number(buf, 0);
-        let limit = bench::number(buf, 4);
-        let sum = total(rounds, limit, &buf[8..n], answers);
-        println!(rt; "{sum}")?;
+    let Some(given) = Given::of(&buf[..n]) else {
+        return Ok(());
+    };
+    let mut instructions: u64 = 0;
+    for _ in 0..given.rounds {
+        let played = player::play(Start::zero(), given.sheet, answers, &[], given.limit);
+        instructions = instructions.wrapping_add(u64::from(played.done));
     }
-    Ok(())
+    println!(rt; "{instructions}")
 }
 
 fn main(rt: HostRuntime) -> Result<()> {
-    let mut buf = [0u8; 20488];
-    let answers = [0u32; 8192];
-    play(&rt, &mut buf, &answers)
+    play(&rt, &mut [0; 20488], &[0; 8192])
 }

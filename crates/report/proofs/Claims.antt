@@ -6,12 +6,16 @@ use mathlib.Core.Bool.{Bool}
 use mathlib.Core.List.{List, ◌++◌}
 use mathlib.Core.Path.{refl}
 use native.Mathlib.Omega.{arith}
+use Rattle.std.specs.Prelude.{codes, Option, None, Some}
+use Rattle.refusal.specs.Number.{number_of}
 use Rattle.isa.proofs.Bools.{split}
-use Rattle.report.specs.Ascii.{ascii, decimal, digits_in, line, value}
+use Rattle.report.specs.Ascii.{decimal, digits_in, line, value}
 use Rattle.report.specs.Claims.{Claims}
-use Rattle.report.specs.Names.{End, EndRefused, Exception, Halted, IllegalInstruction, Loads, MemWb, NoException}
-use Rattle.report.specs.Names.{PrivilegedInstruction, Ran, Spent, SyscallException}
-use Rattle.report.specs.Refusal.{explained, fault_reason, hex_digit, hex_four, hexadecimal, record_text}
+use Rattle.report.specs.Names.{BadAnswer, BadCommand, BadLength, BadLimit, BadOffer, BadRegister, BadSpecial}
+use Rattle.report.specs.Names.{CounterFull, End, EndRefused, Exception, Faulty, Halted, HighPreview}
+use Rattle.report.specs.Names.{IllegalInstruction, Loads, LongPreview, MemWb, OutOfBounds, PrivilegedInstruction}
+use Rattle.report.specs.Names.{Ran, Refusal, Spent, SyscallException}
+use Rattle.report.specs.Refusal.{explained, fault_reason, hex_digit, hex_four, hexadecimal, reason_text, record_text}
 use Rattle.report.specs.Refusal.{refusal_by, refusal_of, refusal_text}
 use Rattle.report.specs.Text.{count_lines, end_line, register_line, register_lines, report_text}
 use Rattle.sheet.specs.Sheet.{first_refused}
@@ -35,7 +39,7 @@ end_length : (e : End) → length (end_line e) ≤ 33
 unfolding end_line
 end_length Halted = omega arith
 end_length Spent = omega arith
-end_length (EndRefused n) = line_length (ascii "end refused") n
+end_length (EndRefused r) = line_length (codes "end refused") (number_of r)
 end_length Loads = omega arith
 
 register_length : (k v : ℕ) → length (register_line k v) ≤ 43
@@ -44,8 +48,8 @@ register_length k v = split (eqb v 0)
     (λ e. rw e (omega arith))
     (λ e. rw e (omega (
       arith,
-      line_length (ascii "R" ++ decimal k) v,
-      length-append (ascii "R") (decimal k),
+      line_length (codes "R" ++ decimal k) v,
+      length-append (codes "R") (decimal k),
       decimal_length k,
     )))
 
@@ -59,10 +63,10 @@ counts_length : (t n s f : ℕ) → length (count_lines t n s f) ≤ 113
 unfolding count_lines
 counts_length t n s f = simp length-append (omega (
   arith,
-  line_length (ascii "ticks") t,
-  line_length (ascii "retired") n,
-  line_length (ascii "stalls") s,
-  line_length (ascii "flushes") f,
+  line_length (codes "ticks") t,
+  line_length (codes "retired") n,
+  line_length (codes "stalls") s,
+  line_length (codes "flushes") f,
 ))
 
 pub short : (r : Ran) → length (report_text r) ≤ 1522
@@ -79,42 +83,47 @@ hexadecimal_length : (n : ℕ) → length (hexadecimal n) ≤ 8
 unfolding hexadecimal hex_four
 hexadecimal_length n = split (ltb n 65536) (λ e. rw e (omega arith)) (λ e. rw e (omega arith))
 
-explained_length : (pc n : ℕ) (why : List ℕ) → length why ≤ 52 → length (explained pc n why) ≤ 139
-unfolding explained record_text
-explained_length pc n why h = simp length-append
-    (omega (arith, decimal_length (pc / 4), decimal_length n, hexadecimal_length pc))
+explained_length : (pc : ℕ) (r : Refusal) (why : List ℕ) → length why ≤ 52 → length (explained pc r why) ≤ 139
+unfolding explained reason_text record_text
+explained_length pc r why h = simp length-append
+    (omega (arith, decimal_length (pc / 4), decimal_length (number_of r), hexadecimal_length pc))
 
-fault_length : (e : Exception) (b : Bool) → length (fault_reason e b) ≤ 52
+fault_length : (e : Option Exception) (b : Bool) → length (fault_reason e b) ≤ 52
 unfolding fault_reason
-fault_length NoException b = split b (λ e. rw e (omega arith)) (λ e. rw e (omega arith))
-fault_length PrivilegedInstruction b = omega arith
-fault_length IllegalInstruction b = omega arith
-fault_length (SyscallException n) b = omega arith
+fault_length None b = split b (λ e. rw e (omega arith)) (λ e. rw e (omega arith))
+fault_length (Some PrivilegedInstruction) b = omega arith
+fault_length (Some IllegalInstruction) b = omega arith
+fault_length (Some (SyscallException n)) b = omega arith
 
-refusal_length : (n first : ℕ) (m : MemWb) → length (refusal_by n first m) ≤ 139
+-- a refusal that is told by its number alone
+number_length : (n : ℕ) → length (line (codes "tickrun: refused") n) ≤ 139
+number_length n = omega (arith, line_length (codes "tickrun: refused") n)
+
+refusal_length : (r : Refusal) (first : ℕ) (m : MemWb) → length (refusal_by r first m) ≤ 139
 unfolding refusal_by
-refusal_length n first m = split (eqb n 1)
-    (λ e. rw e (explained_length first 1 (ascii "it names a register above 31") (omega arith)))
-    (λ a. split (eqb n 5)
-    (λ e. rw (a, e) (explained_length first 5 (ascii "no such command, or a byte is not 0 where it must be")
-    (omega arith)))
-    (λ c. split (eqb n 6)
-    (λ e. rw (a, c, e) (omega arith))
-    (λ d. split (eqb n 12)
-    (λ e. rw (a, c, d, e)
-    (explained_length m.pc 12 (fault_reason m.exception m.iret) (fault_length m.exception m.iret)))
-    (λ e. rw (a, c, d, e) (omega (arith, line_length (ascii "tickrun: refused") n))))))
+refusal_length BadRegister first m = explained_length first BadRegister _ (omega arith)
+refusal_length BadCommand first m = explained_length first BadCommand _ (omega arith)
+refusal_length BadLength first m = omega arith
+refusal_length Faulty first m = explained_length m.pc Faulty _ (fault_length m.exception m.iret)
+refusal_length BadOffer first m = number_length _
+refusal_length BadAnswer first m = number_length _
+refusal_length BadLimit first m = number_length _
+refusal_length LongPreview first m = number_length _
+refusal_length HighPreview first m = number_length _
+refusal_length BadSpecial first m = number_length _
+refusal_length OutOfBounds first m = number_length _
+refusal_length CounterFull first m = number_length _
 
 short_refusal_lem : (e : End) (sheet : List ℕ) (m : MemWb) → length (refusal_text e sheet m) ≤ 139
 unfolding refusal_text
 short_refusal_lem Halted sheet m = omega arith
 short_refusal_lem Spent sheet m = omega arith
-short_refusal_lem (EndRefused n) sheet m = refusal_length n (first_refused sheet 0 4096 * 4) m
+short_refusal_lem (EndRefused r) sheet m = refusal_length r (first_refused sheet 0 4096 * 4) m
 short_refusal_lem Loads sheet m = omega arith
 
 pub claims : Claims
-unfolding line value decimal digits_in end_line register_line register_lines count_lines report_text hex_digit hex_four
-    hexadecimal record_text explained refusal_by refusal_of
+unfolding number_of line value decimal digits_in end_line register_line register_lines count_lines report_text hex_digit hex_four
+    hexadecimal record_text reason_text explained refusal_by refusal_of
 claims = record {
   short = short;
   short_refusal = λ r sheet. short_refusal_lem r.end sheet r.state.stages.mem_wb;

@@ -1,4 +1,4 @@
 pub mod Put
-pub mod Whole
+pub mod Written
 pub mod Claims
 pub mod Decimal

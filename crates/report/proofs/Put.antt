@@ -1,53 +1,41 @@
--- Putting one text behind another puts both. Assumes nothing.
-use Prim.Native.Nat.{◌+◌, ◌<◌, ◌≤◌, ℕ}
-use borrow.Author.Tests.{le-ltb, lt-ltb}
-use lib.ListN.{length, length-set, set}
-use lib.Seq.{set_out}
-use mathlib.Core.List.{List, [], ◌++◌, ◌∷◌}
-use mathlib.Core.Path.{◌∙◌, ◌≡◌, ap, refl, sym}
-use Rattle.report.specs.Inner.{Puts, behind, buffer_after, place_after}
+-- Putting one text behind another puts both.
+use Rattle.std.proofs.Common.{◌≡◌, ℕ, ◌+◌, ◌-◌, min, List, [], ◌++◌, length, take, ◌∙◌, sym, refl}
+use Rattle.std.proofs.Common.{append_assoc, append-nil, arith}
+use Rattle.std.proofs.Math.Nat.{add-sub_cancel_left}
+use Rattle.std.proofs.Math.Seq.{take-length}
+use Rattle.report.proofs.Written.{count_more, room_is, written_more}
+use Rattle.report.specs.Inner.{Holds, Puts}
+use Rattle.report.specs.Written.{written, written_count}
+use Rattle.report.specs.declared.Text.{Text}
+use borrow.Rule.Slice.PartMut.{put_mid}
 
--- a byte within the buffer, and one behind its end
-module _ (l : List ℕ) (p b : ℕ) where
-  pub put_in : p < length l → Puts l p (b ∷ []) (set l p b) (p + 1)
-  unfolding buffer_after place_after behind
-  put_in h = record { buffer = refl; place = rw (lt-ltb p (length l) h) }
-
-  pub put_out : length l ≤ p → Puts l p (b ∷ []) l p
-  unfolding buffer_after place_after behind
-  put_out h = record { buffer = rw (set_out l p b); place = rw (le-ltb p (length l) h) }
-
-pub put_nothing : (l : List ℕ) (p : ℕ) → Puts l p [] l p
-unfolding buffer_after place_after
-put_nothing l p = record { buffer = refl; place = refl }
-
-pub length_after : (l : List ℕ) (p : ℕ) (t : List ℕ) → length (buffer_after l p t) ≡ length l
-unfolding buffer_after
-length_after l p [] = refl
-length_after l p (b ∷ t) = length_after (set l p b) (behind (length l) p) t ∙ length-set l p b
-
-place_append : (n p : ℕ) (s t : List ℕ) → place_after n p (s ++ t) ≡ place_after n (place_after n p s) t
-unfolding place_after
-place_append n p [] t = refl
-place_append n p (b ∷ s) t = place_append n (behind n p) s t
-
-buffer_append : (l : List ℕ) (p : ℕ) (s t : List ℕ)
-    → buffer_after l p (s ++ t) ≡ buffer_after (buffer_after l p s) (place_after (length l) p s) t
-unfolding buffer_after place_after
-buffer_append l p [] t = refl
-buffer_append l p (b ∷ s) t = buffer_append (set l p b) (behind (length l) p) s t
-    ∙ rw length-set
-
-pub put_both : {l s t l' l'' : List ℕ} {p q r : ℕ} → Puts l p s l' q → Puts l' q t l'' r → Puts l p (s ++ t) l'' r
-put_both {l} {s} {t} {l'} {l''} {p} {q} {r} a b = record {
-  buffer = b.buffer ∙ rw (a.buffer, a.place) (sym (buffer_append l p s t));
-  place = b.place ∙ rw (a.buffer, a.place, length_after) (sym (place_append (length l) p s t));
+-- n bytes of t copied behind what b holds, as many as there is room for
+pub put_copied : {b c : Text} {t zs : List ℕ} {n : ℕ} → n ≡ min (length t) (length b.out.now - b.len) → zs ≡ take n t
+    → c.out.ghost_name ≡ b.out.ghost_name → c.out.now ≡ put_mid b.len (b.len + n - b.len) b.out.now zs
+    → c.len ≡ b.len + n → Puts b t c
+put_copied {b} {c} {t} {zs} {n} fits copied same out len = record {
+  same_reference = same;
+  behind = λ l text h.
+      let e : n ≡ min (length t) (length l - length text) = rw (h.buffer, h.len, room_is) at fits in
+      record {
+        buffer = out ∙ rw (add-sub_cancel_left, copied, h.len, h.buffer) (sym (written_more text t l n e));
+        len = len ∙ rw h.len (sym (count_more text t l n e));
+      };
 }
 
--- a buffer keeps its length
-pub put_length : {l t l' : List ℕ} {p r : ℕ} → Puts l p t l' r → length l' ≡ length l
-put_length {l} {t} {l'} {p} a = ap length a.buffer ∙ length_after l p t
+pub holds_none : (l : List ℕ) (b : Text) → b.out.now ≡ l → b.len ≡ 0 → Holds l [] b
+unfolding written written_count
+holds_none l b same e = record { buffer = rw (same, take-length); len = omega arith }
 
--- the same text, said otherwise
-pub put_as : {l s t l' : List ℕ} {p r : ℕ} → s ≡ t → Puts l p s l' r → Puts l p t l' r
-put_as e a = rw e at a
+-- a text that was put into an empty buffer stands there whole
+pub held : {l t : List ℕ} {b c : Text} → Holds l [] b → Puts b t c → Holds l t c
+held {l} {t} h p = p.behind l [] h
+
+pub put_both : {b c d : Text} {s t : List ℕ} → Puts b s c → Puts c t d → Puts b (s ++ t) d
+put_both {b} {c} {d} {s} {t} p q = record {
+  same_reference = q.same_reference ∙ p.same_reference;
+  behind = λ l text h. rw append_assoc at (q.behind l (text ++ s) (p.behind l text h));
+}
+
+pub put_nothing : (b : Text) → Puts b [] b
+put_nothing b = record { same_reference = refl; behind = λ l text h. rw append-nil h }

@@ -1,12 +1,5 @@
--- Text as a list of bytes: quoted text, decimal numbers, lines.
-use Prim.Native.Char.{code}
-use Rattle.std.specs.Prelude.{◌%◌, ◌+◌, ◌/◌, suc, zero, ℕ, nat_lt, cond, List, [], ◌++◌, ◌∷◌}
-use Prim.Native.String.{String, [] as done, ◌∷◌ as ◌then◌}
-
--- the bytes of a quoted text
-abbrev pub ascii : String → List ℕ
-ascii done = []
-ascii (c then s) = code c ∷ ascii s
+-- Text as a list of bytes: decimal numbers and lines. The bytes of a quoted text are the library's `codes`.
+use Rattle.std.specs.Prelude.{◌%◌, ◌+◌, ◌/◌, suc, zero, ℕ, nat_lt, codes, cond, List, [], ◌++◌, ◌∷◌}
 
 -- the decimal digits of n, a number of at most k digits, without leading zeros; 48 is the byte of 0
 unfoldable pub digits_in : ℕ → ℕ → List ℕ
@@ -19,7 +12,7 @@ decimal n = digits_in 20 n
 
 -- what follows a line's name: a space, a number, the line's end
 unfoldable pub value : ℕ → List ℕ
-value n = ascii " " ++ (decimal n ++ ascii "\n")
+value n = codes " " ++ (decimal n ++ codes "\n")
 
 -- a line
 unfoldable pub line : List ℕ → ℕ → List ℕ

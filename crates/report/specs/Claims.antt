@@ -1,7 +1,7 @@
 -- What is claimed of the texts beside the equations of the functions that write them.
-use Rattle.std.specs.Prelude.{◌≤◌, ℕ, length, replicate, set, List, [], ◌≡◌}
-use Rattle.report.specs.Ascii.{ascii, line}
-use Rattle.report.specs.Names.{EndRefused, Halted, MemWb, Ran, Stages}
+use Rattle.std.specs.Prelude.{codes, ◌≤◌, ℕ, length, replicate, set, List, [], ◌≡◌}
+use Rattle.report.specs.Ascii.{line}
+use Rattle.report.specs.Names.{BadRegister, EndRefused, Faulty, Halted, MemWb, Ran, Stages}
 use Rattle.report.specs.Refusal.{refusal_by, refusal_of}
 use Rattle.report.specs.Text.{end_line, register_line, report_text}
 
@@ -29,12 +29,12 @@ pub record Claims : Type 0 where
   pub short_refusal : (r : Ran) (sheet : List ℕ) → length (refusal_of r sheet) ≤ 139
   -- the report of RULES 22.1's row with ADDI, MUL and HALT, whatever the latches and the two other counters hold
   pub example : (l : Stages) (c k : ℕ) → report_text (example_ran l c k)
-      ≡ ascii "end halted\nticks 9\nretired 3\nstalls 2\nflushes 0\nR3 7\nR4 49\n"
+      ≡ codes "end halted\nticks 9\nretired 3\nstalls 2\nflushes 0\nR3 7\nR4 49\n"
   -- lines at their limits
-  pub most : line (ascii "retired") 18446744073709551615 ≡ ascii "retired 18446744073709551615\n"
-  pub refused : end_line (EndRefused 12) ≡ ascii "end refused 12\n"
-  pub last : register_line 31 4294967295 ≡ ascii "R31 4294967295\n"
+  pub most : line (codes "retired") 18446744073709551615 ≡ codes "retired 18446744073709551615\n"
+  pub refused : end_line (EndRefused Faulty) ≡ codes "end refused 12\n"
+  pub last : register_line 31 4294967295 ≡ codes "R31 4294967295\n"
   pub cleared : register_line 31 0 ≡ []
   -- a refused record at address 2748
   pub record687 : (m : MemWb)
-      → refusal_by 1 2748 m ≡ ascii "tickrun: record 687, address 0ABC: refused 1, it names a register above 31\n"
+      → refusal_by BadRegister 2748 m ≡ codes "tickrun: record 687, address 0ABC: refused 1, it names a register above 31\n"

@@ -1,7 +1,11 @@
 -- The declared types and constructors that this crate names, each under the name that the declaring crate gives it.
 pub use Rattle.isa.specs.declared.Exception.{Exception}
-pub use Rattle.isa.specs.declared.Exception.TheVariants.{None as NoException, PrivilegedInstruction}
-pub use Rattle.isa.specs.declared.Exception.TheVariants.{IllegalInstruction, Syscall as SyscallException}
+pub use Rattle.isa.specs.declared.Exception.TheVariants.{PrivilegedInstruction, IllegalInstruction}
+pub use Rattle.isa.specs.declared.Exception.TheVariants.{Syscall as SyscallException}
+pub use Rattle.refusal.specs.declared.Refusal.{Refusal}
+pub use Rattle.refusal.specs.declared.Refusal.TheVariants.{BadRegister, BadOffer, BadAnswer, BadCommand, BadLength}
+pub use Rattle.refusal.specs.declared.Refusal.TheVariants.{BadLimit, LongPreview, HighPreview, BadSpecial, OutOfBounds}
+pub use Rattle.refusal.specs.declared.Refusal.TheVariants.{Faulty, CounterFull}
 pub use Rattle.sheet.specs.declared.End.{End}
 pub use Rattle.sheet.specs.declared.End.TheVariants.{Halted, Spent, Refused as EndRefused, Loads}
 pub use Rattle.latch.specs.declared.MemWb.{MemWb}

@@ -1,8 +1,10 @@
 -- What tickrun says on standard error: nothing, or of a refused run which record it was and why.
-use Rattle.std.specs.Prelude.{◌%◌, ◌*◌, ◌+◌, ◌/◌, ℕ, ◌==◌, nat_lt, Bool, cond, List, [], ◌++◌, ◌∷◌}
-use Rattle.report.specs.Ascii.{ascii, decimal, line}
-use Rattle.report.specs.Names.{End, EndRefused, Exception, Halted, IllegalInstruction, Loads, MemWb, NoException}
-use Rattle.report.specs.Names.{PrivilegedInstruction, Ran, Spent, SyscallException}
+use Rattle.std.specs.Prelude.{◌%◌, ◌*◌, ◌+◌, ◌/◌, ℕ, nat_lt, Bool, codes, cond, List, [], ◌++◌, ◌∷◌, Option, None, Some}
+use Rattle.refusal.specs.Number.{number_of}
+use Rattle.report.specs.Ascii.{decimal, line}
+use Rattle.report.specs.Names.{BadCommand, BadLength, BadRegister, End, EndRefused, Exception, Faulty, Halted}
+use Rattle.report.specs.Names.{IllegalInstruction, Loads, MemWb, PrivilegedInstruction, Ran, Refusal, Spent}
+use Rattle.report.specs.Names.{SyscallException}
 use Rattle.sheet.specs.Sheet.{first_refused}
 
 -- the digit of the lowest four bits, 0 to 9 and A to F
@@ -19,34 +21,38 @@ hexadecimal n = cond (nat_lt n 65536) (hex_four n) (hex_four (n / 65536) ++ hex_
 
 -- the record of an address
 unfoldable pub record_text : ℕ → List ℕ
-record_text pc = ascii "record " ++ (decimal (pc / 4) ++ (ascii ", address " ++ hexadecimal pc))
+record_text pc = codes "record " ++ (decimal (pc / 4) ++ (codes ", address " ++ hexadecimal pc))
 
--- which record it was, the number of the refusal, and why
-unfoldable pub explained : ℕ → ℕ → List ℕ → List ℕ
-explained pc n why =
-    ascii "tickrun: " ++ (record_text pc ++ (ascii ": refused " ++ (decimal n ++ (ascii ", " ++ (why ++ ascii "\n")))))
+-- the number of the refusal, and why
+unfoldable pub reason_text : Refusal → List ℕ → List ℕ
+reason_text r why = codes ": refused " ++ (decimal (number_of r) ++ (codes ", " ++ (why ++ codes "\n")))
+
+-- which record it was, and the reason
+unfoldable pub explained : ℕ → Refusal → List ℕ → List ℕ
+explained pc r why = codes "tickrun: " ++ (record_text pc ++ reason_text r why)
 
 -- what came to retire where 12 applies: an exception, the mark of IRET, or else MTSR
-unfoldable pub fault_reason : Exception → Bool → List ℕ
-fault_reason NoException iret = cond iret (ascii "it is IRET") (ascii "it is MTSR")
-fault_reason PrivilegedInstruction iret = ascii "it is privileged"
-fault_reason IllegalInstruction iret = ascii "no such instruction, or no such special register"
-fault_reason (SyscallException imm) iret = ascii "it is SYSCALL"
+unfoldable pub fault_reason : Option Exception → Bool → List ℕ
+fault_reason None iret = cond iret (codes "it is IRET") (codes "it is MTSR")
+fault_reason (Some PrivilegedInstruction) iret = codes "it is privileged"
+fault_reason (Some IllegalInstruction) iret = codes "no such instruction, or no such special register"
+fault_reason (Some (SyscallException imm)) iret = codes "it is SYSCALL"
 
--- by the number, the address of the first refused record, and the latch that holds what retires next
-unfoldable pub refusal_by : ℕ → ℕ → MemWb → List ℕ
-refusal_by n first m =
-    cond (n == 1) (explained first 1 (ascii "it names a register above 31"))
-    (cond (n == 5) (explained first 5 (ascii "no such command, or a byte is not 0 where it must be"))
-    (cond (n == 6) (ascii "tickrun: refused 6, the number of bytes is above 20480 or not divisible by 5\n")
-    (cond (n == 12) (explained m.pc 12 (fault_reason m.exception m.iret))
-    (line (ascii "tickrun: refused") n))))
+-- by the refusal, the address of the first refused record, and the latch that holds what retires next
+unfoldable pub refusal_by : Refusal → ℕ → MemWb → List ℕ
+refusal_by BadRegister first m = explained first BadRegister (codes "it names a register above 31")
+refusal_by BadCommand first m =
+    explained first BadCommand (codes "no such command, or a byte is not 0 where it must be")
+refusal_by BadLength first m =
+    codes "tickrun: refused 6, the number of bytes is above 20480 or not divisible by 5\n"
+refusal_by Faulty first m = explained m.pc Faulty (fault_reason m.exception m.iret)
+refusal_by r first m = line (codes "tickrun: refused") (number_of r)
 
 -- by the run's end; a sheet that is not too long has at most 4,096 records
 unfoldable pub refusal_text : End → List ℕ → MemWb → List ℕ
 refusal_text Halted sheet m = []
 refusal_text Spent sheet m = []
-refusal_text (EndRefused n) sheet m = refusal_by n (first_refused sheet 0 4096 * 4) m
+refusal_text (EndRefused r) sheet m = refusal_by r (first_refused sheet 0 4096 * 4) m
 refusal_text Loads sheet m = []
 
 -- of a run of a sheet

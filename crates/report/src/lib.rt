@@ -6,38 +6,37 @@
 // - explain: a record counted as five addresses; the reason of 5 for 1.
 #![tactic(auto)]
 
-ghost use Rattle.std.specs.Prelude.{◌≡◌};
+ghost use Rattle.std.specs.Prelude.{◌≡◌, ◌≤◌, length};
 ghost use Rattle.report.specs.Refusal.{refusal_of};
 ghost use Rattle.report.specs.Text.{report_text};
 ghost use Rattle.report.specs.Written.{written, written_count};
 
 mod lines;
-mod refusal;
-mod text;
+mod pieces;
+mod reasons;
 
 use crate::lines::{put_counts, put_end, put_registers};
-use crate::refusal::put_refusal;
+use crate::reasons::put_refusal;
 use runs::Ran;
+
+// The text at the start of a buffer, `len` bytes of it. What does not fit is cut off at the buffer's end.
+#[derive(Drop)]
+struct Text<'a> {
+    out: &'a mut [u8],
+    len: usize,
+    ghost within: { len ≤ length out.now },
+}
 
 // Writes a run's report at the start of a buffer and answers how many bytes of it stand there.
 pub fn write(ran: Ran, out: &mut [u8]) -> usize
     ensures out_after { out.new ≡ written (report_text ran) out.old }
     ensures value { result ≡ written_count (report_text ran) out.old }
 {
-    let s = ran.state;
-    let reg = s.reg;
-    let c = s.counts;
-    let end = ran.end;
-    let a = put_end(out, 0, end);
-    let b = put_counts(
-        out,
-        a,
-        ran.ticks as u64,
-        c.instructions_executed,
-        c.stall_cycles,
-        c.flush_events,
-    );
-    put_registers(out, b, &reg)
+    let mut text = Text::new(out);
+    put_end(&mut text, ran.end);
+    put_counts(&mut text, ran.ticks, &ran.state.counts);
+    put_registers(&mut text, &ran.state.reg);
+    text.len()
 }
 
 // Writes which record was refused and why, where a run of a sheet was refused, in the same way.
@@ -45,9 +44,7 @@ pub fn explain(ran: Ran, sheet: &[u8], out: &mut [u8]) -> usize
     ensures out_after { out.new ≡ written (refusal_of ran sheet.now) out.old }
     ensures value { result ≡ written_count (refusal_of ran sheet.now) out.old }
 {
-    let s = ran.state;
-    let l = s.stages;
-    let m = l.mem_wb;
-    let end = ran.end;
-    put_refusal(out, end, sheet, m)
+    let mut text = Text::new(out);
+    put_refusal(&mut text, ran.end, sheet, &ran.state.stages.mem_wb);
+    text.len()
 }

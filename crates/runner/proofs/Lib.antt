@@ -1,2 +1,2 @@
+pub mod Ticks
 pub mod Loop
-pub mod Turns

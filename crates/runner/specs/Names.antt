@@ -1,12 +1,10 @@
 -- The declared types and constructors that this crate names, each under the name that the declaring crate gives it.
 pub use Rattle.isa.specs.declared.Instruction.TheVariants.{Nop}
+pub use Rattle.isa.specs.declared.Place.{Place}
+pub use Rattle.isa.specs.declared.RawInstr.{RawInstr}
 pub use Rattle.isa.specs.declared.RawInstr.TheVariants.{Normal as RawNormal}
-pub use Rattle.isa.specs.declared.Special.{Special}
-pub use Rattle.isa.specs.declared.Special.TheVariants.{None as Unsaid}
 pub use Rattle.sheet.specs.declared.End.{End}
-pub use Rattle.sheet.specs.declared.Turn.{Turn}
-pub use Rattle.sheet.specs.declared.Turn.TheVariants.{Ends, Ticks}
-pub use Rattle.stages.specs.declared.Taken.{Taken}
+pub use Rattle.sheet.specs.declared.End.TheVariants.{Halted, Spent}
 pub use Rattle.stages.specs.declared.Move.TheVariants.{KeepWaiting as keep_waiting}
 pub use Rattle.stages.specs.declared.Stages.{Stages}
 pub use Rattle.stages.specs.declared.Counters.{Counters}

@@ -6,165 +6,162 @@
 // looked up in an empty table.
 #![tactic(auto)]
 
-ghost use Rattle.std.specs.Prelude.{cond, ◌≡◌, slice_index};
-ghost use Rattle.runs.specs.Run.{play, ran, reported, run_code, turn_of};
-ghost use Rattle.sheet.specs.Sheet.{sheet_source};
-ghost use Rattle.sheet.specs.Turns.{used_after};
+ghost use Rattle.std.specs.Prelude.{cond, false, true, ◌≡◌};
+ghost use Rattle.std.specs.Option.{option_map_or};
+ghost use Rattle.isa.specs.Machine.{first, is_empty};
+ghost use Rattle.pipeline.specs.Advance.{next};
+ghost use Rattle.pipeline.specs.Tick.{taken};
+ghost use Rattle.pipeline.specs.Turn.{reply};
+ghost use Rattle.runs.specs.Run.{left_after, play, ran, reported, run_check, turn_of};
+ghost use Rattle.sheet.specs.Sheet.{offer_at, sheet_source};
+ghost use Rattle.stages.specs.Advance.{awake};
+ghost use Rattle.stages.specs.Counting.{counter_full};
 ghost use Rattle.stages.specs.Loads.{want_load};
-ghost use Rattle.runner.specs.Inner.{Ready, offered_by, ran_to, unoffered};
+ghost use Rattle.runner.specs.Inner.{Ready, joined};
+ghost use Rattle.runner.specs.Names.{Nop, RawNormal};
 
-use isa::registers::sel;
-use isa::{Instruction, RawInstr, Special};
+use isa::{Instruction, Place, RawInstr};
 use pipeline::PipelineCpu;
+use refusal::Refusal;
 use runs::Ran;
-use sheet::answers::answer_at;
+use sheet::End;
 use sheet::check::check_limited;
 use sheet::offer::offer_at;
 use sheet::specials::special_at;
 use sheet::turns::turn_by;
-use sheet::{End, Turn, answers};
-use stages::{Counters, Move, Plan, Stages, Taken};
+use stages::{Move, Taken};
 
-// The answer that a tick takes in: the next one where it loads.
-fn answer_for(s: Stages, answers: &[u32], k: usize) -> u32
-    ensures { result ≡ cond (want_load s) (slice_index answers.now k) 0 }
-{
-    sel(s.wants_load(), answer_at(answers, k), 0)
+// What a run is offered from: a sheet, and a table of special registers.
+#[derive(Clone, Copy)]
+struct Source<'a> {
+    sheet: &'a [u8],
+    table: &'a [u32],
 }
 
-// How many answers are used behind a tick, of so many.
-fn used_after(s: Stages, k: usize, count: usize) -> usize
-    ensures { result ≡ used_after (want_load s) k count }
+// What a tick takes in that is given nothing; a NOP stands for an instruction, and is not looked at.
+const NOTHING: Taken = Taken {
+    answer: 0,
+    raw: RawInstr::Normal(Instruction::Nop),
+    special: None,
+};
+
+// The answer that a tick takes in, the first of those left where it loads, and those left behind it.
+#[tactic(auto, unfolding(isa::specs::Machine::first, isa::specs::Machine::rest, runs::specs::Run::left_after))]
+fn next_answer<'l>(state: &PipelineCpu, left: &'l [u32]) -> (u32, &'l [u32])
+    ensures answer { result.0 ≡ cond (want_load state.now.stages) (first left.now) 0 }
+    ensures left { result.1.now ≡ left_after state.now left.now }
 {
-    answers::used_after(s.wants_load(), k, count)
+    match left.split_first() {
+        Some((answer, rest)) if state.stages.wants_load() => (*answer, rest),
+        _ => (0, left),
+    }
 }
 
-// What the turn does; `none`: no answer is left.
-#[tactic(auto, unfolding(runs::specs::Run::turn_of))]
-fn next_turn(s: Stages, c: Counters, spent: bool, none: bool) -> Turn
-    ensures { result ≡ turn_of s c spent none }
+impl Source<'_> {
+    // What the sheet offers a fetch.
+    fn raw(self, fetch: Option<Place>) -> RawInstr
+        ensures { result ≡ option_map_or (λ at. offer_at self.entry.sheet.now at.pc at.mode) fetch (RawNormal Nop) }
+    {
+        fetch.map_or(NOTHING.raw, |at| offer_at(self.sheet, at))
+    }
+
+    // A tick that is given what it asks for: by the sheet what it fetches, by the table a special register, and the
+    // first of the answers left. It gives those left behind it.
+    fn tick<'l>(self, state: &mut PipelineCpu, reg: &mut [u32; 32], left: &'l [u32]) -> &'l [u32]
+        requires moves { awake state.old.stages ≡ true }
+        requires room { counter_full state.old.counts ≡ false }
+        ensures state { let before = joined reg.old state.old in
+            joined reg.new state.new
+            ≡ next before (taken (reply (sheet_source self.entry.sheet.now self.entry.table.now) (first left.now) before)) }
+        ensures left { result.now ≡ left_after state.old left.now }
+    {
+        let (answer, left) = next_answer(state, left);
+        let s = state.stages.retire(reg);
+        if s.waits_on() {
+            state.stages = s.wait(Taken { answer, ..NOTHING });
+            state.counts = state.counts.count(s.mem_wb.valid, Move::KeepWaiting);
+            return left;
+        }
+        let plan = s.plan(reg);
+        let taken = Taken {
+            answer,
+            raw: self.raw(s.fetches(plan).then_some(plan.place)),
+            special: special_at(self.table, plan.inquiry),
+        };
+        state.stages = s.advance(plan, taken, reg);
+        state.counts = state.counts.count(s.mem_wb.valid, plan.step);
+        left
+    }
+}
+
+// How a turn below the limit ends the run, if it does.
+#[tactic(auto, unfolding(runs::specs::Run::turn_of, isa::specs::Machine::is_empty))]
+fn next_turn(state: &PipelineCpu, left: &[u32]) -> Option<End>
+    ensures { result ≡ turn_of state.now.stages state.now.counts false (is_empty left.now) }
 {
+    let s = state.stages;
     turn_by(
         s.running,
-        spent,
+        false,
         s.is_faulty(),
-        c.is_full(),
-        s.wants_load() & none,
+        state.counts.is_full(),
+        s.wants_load() && left.is_empty(),
     )
 }
 
-// What a tick takes in that is offered nothing; a NOP stands for it, and is not looked at.
-#[tactic(auto, unfolding(crate::specs::Inner::unoffered))]
-fn unoffered(answer: u32, special: Special) -> Taken
-    ensures { result ≡ unoffered answer special }
-{
-    Taken {
-        answer,
-        raw: RawInstr::Normal(Instruction::Nop),
-        special,
-    }
-}
-
-// What a plan takes in: what the sheet offers, where it fetches, and what the table says, where it asks.
-#[tactic(auto, unfolding(crate::specs::Inner::offered_by))]
-fn offered(l: Stages, plan: Plan, sheet: &[u8], table: &[u32], answer: u32) -> Taken
-    ensures { result ≡ offered_by l plan (sheet_source sheet.now table.now) answer }
-{
-    let inquiry = plan.inquiry;
-    let special = special_at(table, inquiry);
-    if l.fetches(plan) {
-        let place = plan.place;
-        let mode = place.mode;
-        let raw = offer_at(sheet, place.pc, mode);
-        return Taken {
-            answer,
-            raw,
-            special,
-        };
-    }
-    unoffered(answer, special)
-}
-
-// The report of a run that ends here.
-#[tactic(auto, unfolding(crate::specs::Inner::ran_to))]
-fn report(end: End, ticks: u32, reg: [u32; 32], stages: Stages, counts: Counters) -> Ran
-    ensures { result ≡ ran_to end ticks reg stages counts }
-{
-    let state = PipelineCpu {
-        reg,
-        stages,
-        counts,
-    };
-    Ran { end, ticks, state }
-}
-
 // The turns of a run that was not refused before its first.
-#[tactic(auto, unfolding(crate::specs::Inner::ran_to, stages::specs::Advance::awake))]
-fn play(state: PipelineCpu, sheet: &[u8], answers: &[u32], table: &[u32], limit: u32) -> Ran
-    requires { Ready sheet.now limit state }
+#[tactic(auto, using(crate::proofs::Loop::begins, runs::proofs::Turns::turn_ticks))]
+fn play(mut state: PipelineCpu, source: Source<'_>, answers: &[u32], limit: u32) -> Ran
+    requires { Ready source.sheet.now state }
     ensures { result ≡
-        reported (play (sheet_source sheet.now table.now) limit answers.now state) }
+        reported (play (sheet_source source.entry.sheet.now source.entry.table.now) limit answers.now state) }
 {
+    // The registers are held apart from the state: left in it they make a tick half as long again.
     let mut reg = state.reg;
-    let mut s = state.stages;
-    let mut c = state.counts;
-    let mut used: usize = 0;
-    let mut ticks: u32 = 0;
-    while ticks <= limit {
-        let turn = next_turn(s, c, ticks == limit, answers.len() <= used);
-        match turn {
-            Turn::Ends(end) => {
-                return report(end, ticks, reg, s, c);
-            }
-            Turn::Ticks => {
-                let answer = answer_for(s, answers, used);
-                used = used_after(s, used, answers.len());
-                ticks += 1;
-                let l = s.retire(&mut reg);
-                let m = l.mem_wb;
-                if l.waits_on() {
-                    s = l.wait(unoffered(answer, Special::None));
-                    c = c.count(m.valid, Move::KeepWaiting);
-                } else {
-                    let plan = l.plan(&reg);
-                    let step = plan.step;
-                    s = l.advance(plan, offered(l, plan, sheet, table, answer), &reg);
-                    c = c.count(m.valid, step);
-                }
-            }
+    let mut left = answers;
+    for ticks in 0..limit {
+        if let Some(end) = next_turn(&state, left) {
+            state.reg = reg;
+            return Ran { end, ticks, state };
         }
+        left = source.tick(&mut state, &mut reg, left);
     }
-    report(End::Spent, ticks, reg, s, c)
+    state.reg = reg;
+    let end = if state.stages.running {
+        End::Spent
+    } else {
+        End::Halted
+    };
+    Ran {
+        end,
+        ticks: limit,
+        state,
+    }
 }
 
-// 6, per record 5, 1; then 7 and 11.
-#[tactic(auto, unfolding(runs::specs::Run::run_code))]
-fn code(state: PipelineCpu, sheet: &[u8], limit: u32) -> u32
-    ensures { result ≡ run_code state sheet.now limit }
+// The check before the first turn: 6, per record 5, 1; then 7 and 11.
+#[tactic(auto, unfolding(runs::specs::Run::run_check))]
+fn check(state: PipelineCpu, sheet: &[u8], limit: u32) -> Result<(), Refusal>
+    ensures { result ≡ run_check state sheet.now limit }
 {
-    let k = check_limited(sheet, limit);
-    if 0 < k {
-        return k;
+    check_limited(sheet, limit)?;
+    if state.stages.out_of_bounds() {
+        return Err(Refusal::OutOfBounds);
     }
-    let s = state.stages;
-    if s.out_of_bounds() {
-        return 11;
-    }
-    0
+    Ok(())
 }
 
 // Runs a sheet from a state to its end; `table` has the words of the special registers.
-#[tactic(auto, unfolding(runs::specs::Run::ran, runs::specs::Run::refused_run))]
+#[tactic(auto, using(crate::proofs::Loop::ready), unfolding(runs::specs::Run::ran, runs::specs::Run::checked_run, runs::specs::Run::refused_run))]
 pub fn run(state: PipelineCpu, sheet: &[u8], answers: &[u32], table: &[u32], limit: u32) -> Ran
     ensures { result ≡ ran state sheet.now answers.now table.now limit }
 {
-    let k = code(state, sheet, limit);
-    if 0 < k {
+    if let Err(refusal) = check(state, sheet, limit) {
         return Ran {
-            end: End::Refused(k),
+            end: End::Refused(refusal),
             ticks: 0,
             state,
         };
     }
-    play(state, sheet, answers, table, limit)
+    play(state, Source { sheet, table }, answers, limit)
 }

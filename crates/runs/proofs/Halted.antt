@@ -6,6 +6,7 @@ use mathlib.Core.Bool.{Bool, cond, false, false≢true, true}
 use mathlib.Core.List.{List}
 use mathlib.Core.Path.{◌∙◌, ◌≡◌, ap, refl, subst, sym}
 use native.Mathlib.Omega.{arith}
+use Rattle.std.specs.Prelude.{Option, None, Some, Result, Ok, Err}
 use Rattle.accuracy.proofs.Accuracy.{Inv, Now, Step, committed, live, over, quiet, start_live, step_by}
 use Rattle.accuracy.proofs.Path.{due}
 use Rattle.accuracy.proofs.Timing.{due_time, time_path}
@@ -13,14 +14,14 @@ use Rattle.accuracy.specs.Accuracy.{Run, begin, one_by}
 use Rattle.accuracy.specs.Count.{path, retire_tick}
 use Rattle.isa.specs.Machine.{Arch, Program, Source, arch_with, first, is_empty, machine, program_of}
 use Rattle.pipeline.specs.Start.{fresh}
-use Rattle.pipeline.specs.Tick.{Result, moved, refused, tick}
+use Rattle.pipeline.specs.Tick.{tick}
 use Rattle.pipeline.specs.Turn.{reply}
 use Rattle.stages.specs.Loads.{want_load}
 use Rattle.runs.proofs.Plays.{play_stopped}
 use Rattle.runs.proofs.Ticks.{feeds, meets}
 use Rattle.runs.proofs.Turns.{turn_load, turn_rests}
 use Rattle.runs.specs.Claims.{HaltedReport}
-use Rattle.runs.specs.Names.{End, Ends, Given, Halted, PipelineCpu, Spent, Start, Ticks, Turn}
+use Rattle.runs.specs.Names.{End, Given, Halted, PipelineCpu, Refusal, Spent, Start}
 use Rattle.runs.specs.Run.{Played, ended, left_after, more, play, play_by, reported, turn_of}
 
 -- a run with no tick left ends halted only where the machine has stopped
@@ -79,19 +80,19 @@ module _ (src : Source) (v : Start) (w : Arch) (len : length w.reg ≡ 32)
   halts_next r r' k n l ru (committed x (over e c)) ih = at_once r r' k n l x e
 
   -- a turn, by what it does and the result of its tick
-  halts_by : (r : Run) (l : List ℕ) (u : Turn) (o : Result) (k : PipelineCpu → Played)
+  halts_by : (r : Run) (l : List ℕ) (u : Option End) (o : Result PipelineCpu Refusal) (k : PipelineCpu → Played)
       → r.state.stages.running ≡ true
       → turn_of r.state.stages r.state.counts false (is_empty l) ≡ u
       → (play_by u o r.state (reply src (first l) r.state) k).end ≡ Halted
-      → ((s : PipelineCpu) → o ≡ moved s → (k s).end ≡ Halted
+      → ((s : PipelineCpu) → o ≡ Ok s → (k s).end ≡ Halted
       → (want_load r.state.stages ≡ true → is_empty l ≡ false)
       → Halts (suc r.accepted) (k s))
       → Halts r.accepted (play_by u o r.state (reply src (first l) r.state) k)
   unfolding play_by ended more
-  halts_by r l (Ends z) o k ru a e h =
-      absurd (false≢true (sym (turn_rests r.state l (a ∙ ap (λ (x : End). Ends x) e)) ∙ ru))
-  halts_by r l Ticks (refused c) k ru a e h = absurd (let z : ◌≡◌ {A = ℕ} 0 1 = cc in omega arith)
-  halts_by r l Ticks (moved s) k ru a e h =
+  halts_by r l (Some z) o k ru a e h =
+      absurd (false≢true (sym (turn_rests r.state l (a ∙ ap Some e)) ∙ ru))
+  halts_by r l None (Err c) k ru a e h = cc
+  halts_by r l None (Ok s) k ru a e h =
       one_more r.accepted (reply src (first l) r.state) (k s) (h s refl e (turn_load r.state l a))
 
   -- a run that ends halted
@@ -104,10 +105,10 @@ module _ (src : Source) (v : Start) (w : Arch) (len : length w.reg ≡ 32)
       let l' = left_after r.state l in
       halts_by r l (turn_of r.state.stages r.state.counts false (is_empty l)) (tick r.state t)
       (λ s. play src n l' s) ru refl e
-      (λ s q e' g. halts_next r (one_by (moved s) t r) k n l' ru
-      (step_by P w len nought r t (moved s) q l l' k i (λ s' a. meets src v r.state (first l))
+      (λ s q e' g. halts_next r (one_by (Ok s) t r) k n l' ru
+      (step_by P w len nought r t (Ok s) q l l' k i (λ s' a. meets src v r.state (first l))
       (feeds src v r.state s l g))
-      (λ j ru' i'. halts_run n l' (one_by (moved s) t r) j ru' i' e'))
+      (λ j ru' i'. halts_run n l' (one_by (Ok s) t r) j ru' i' e'))
 
 -- from the start
 pub run_halted : (src : Source) (v : Start) → length v.reg ≡ 32 → (limit : ℕ) (l : List ℕ)

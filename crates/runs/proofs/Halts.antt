@@ -8,6 +8,7 @@ use mathlib.Core.Bool.{false, false≢true, true}
 use mathlib.Core.List.{List}
 use mathlib.Core.Path.{◌∙◌, ◌≡◌, ap, refl, subst, sym}
 use native.Mathlib.Omega.{arith}
+use Rattle.std.specs.Prelude.{Ok}
 use Rattle.accuracy.proofs.Accuracy.{Step, committed, live, over, quiet, start_live, step_by}
 use Rattle.accuracy.proofs.Bounds.{fresh_in}
 use Rattle.accuracy.proofs.Inv.{Live}
@@ -20,7 +21,7 @@ use Rattle.isa.proofs.Machine.{did_next}
 use Rattle.isa.specs.Machine.{Arch, Program, Source, arch_with, first, machine, program_of}
 use Rattle.pipeline.specs.Advance.{next}
 use Rattle.pipeline.specs.Start.{fresh}
-use Rattle.pipeline.specs.Tick.{moved, taken}
+use Rattle.pipeline.specs.Tick.{taken}
 use Rattle.pipeline.specs.Turn.{reply}
 use Rattle.sheet.proofs.Fair.{Fair}
 use Rattle.stages.specs.Refusals.{out_of_bounds}
@@ -114,7 +115,7 @@ module _ (src : Source) (ok : Fair src) (v : Start) (w : Arch)
       let s = next r.state (taken g) in
       let e = goes_reply src ok r.state (first l) y.sound a b in
       let l' = left_after r.state l in
-      let r' = one_by (moved s) g r in
+      let r' = one_by (Ok s) g r in
       let y' : Ready r' n = record {
         sound = stays_in src ok r.state (first l) y.sound a b;
         low = next_low r.state (taken g) r.accepted y.low;
@@ -124,7 +125,7 @@ module _ (src : Source) (ok : Fair src) (v : Start) (w : Arch)
       subst (λ (p : Played). HaltsWith (suc K) p)
       (sym (play_goes src n l r.state s (turn_goes r.state l lv.running a b d) e))
       (with_more g _ (halts_next r r' k n l' lv.running h
-      (step_by P w len nought r g (moved s) e l l' k (live n₁ n₂ t lv c)
+      (step_by P w len nought r g (Ok s) e l l' k (live n₁ n₂ t lv c)
       (λ s' q. meets src v r.state (first l)) (feeds src v r.state s l d))
       (λ j m₁ m₂ t' h' lv' c'. halts_on n l' r' j m₁ m₂ t' y' h' lv' c')))
 

@@ -6,21 +6,22 @@ use mathlib.Core.Bool.{Bool, cond, false, true}
 use mathlib.Core.List.{List}
 use mathlib.Core.Path.{◌∙◌, ◌≡◌, ap, refl, subst, sym}
 use native.Mathlib.Omega.{arith}
+use Rattle.std.specs.Prelude.{Option, None, Some, Result, Ok, Err}
 use Rattle.accuracy.proofs.Accuracy.{demand3_fed}
 use Rattle.accuracy.proofs.Feeding.{Fed, FeedsBy}
 use Rattle.accuracy.proofs.Offers.{AllMeet, Meets, reply_offer, reply_special}
 use Rattle.accuracy.specs.Accuracy.{Run, after, begin, one, one_by}
 use Rattle.isa.specs.Machine.{Program, Source, first, is_empty, program_of, zero_start}
-use Rattle.pipeline.specs.Tick.{Result, moved, refused, tick, word_in}
+use Rattle.pipeline.specs.Tick.{tick, word_in}
 use Rattle.pipeline.specs.Turn.{reply}
 use Rattle.stages.specs.Loads.{want_load}
 use Rattle.runs.proofs.Turns.{turn_load}
 use Rattle.runs.specs.Claims.{RanTicks, RunRetires, RunTicks}
-use Rattle.runs.specs.Names.{End, Ends, NoAnswer, PipelineCpu, Start, Ticks, Turn, Word}
+use Rattle.runs.specs.Names.{End, PipelineCpu, Refusal, Start}
 use Rattle.runs.specs.Run.{Played, ended, left_after, more, play, play_by, turn_of}
 
 -- the word of an answer given where a load is wanted
-word_is : (b : Bool) (v : ℕ) → b ≡ true → word_in (cond b (Word v) NoAnswer) ≡ v
+word_is : (b : Bool) (v : ℕ) → b ≡ true → word_in (cond b (Some v) None) ≡ v
 unfolding word_in
 word_is true v e = refl
 word_is false v e = cc
@@ -37,7 +38,7 @@ module _ (src : Source) (v : Start) where
 
   -- and feeds the machine the next answer left
   pub feeds : (s s' : PipelineCpu) (l : List ℕ) → (want_load s.stages ≡ true → is_empty l ≡ false)
-      → FeedsBy P (moved s') s (reply src (first l) s) l (left_after s l)
+      → FeedsBy P (Ok s') s (reply src (first l) s) l (left_after s l)
   unfolding FeedsBy reply program_of left_after
   feeds s s' l h = record { asked = λ e. (h e, sym (word_is (want_load s.stages) _ e)); next = refl }
 
@@ -62,14 +63,14 @@ module _ (src : Source) (v : Start) where
 
   -- a run behind one accepted tick
   more_ticks : (r : Run) (n : ℕ) (l : List ℕ) (s : PipelineCpu) (p : Played)
-      → tick r.state (reply src (first l) r.state) ≡ moved s
+      → tick r.state (reply src (first l) r.state) ≡ Ok s
       → (want_load r.state.stages ≡ true → is_empty l ≡ false)
-      → Follows (one_by (moved s) (reply src (first l) r.state) r) n (left_after r.state l) p
+      → Follows (one_by (Ok s) (reply src (first l) r.state) r) n (left_after r.state l) p
       → Follows r (suc n) l (more (reply src (first l) r.state) p)
   unfolding more after Fed AllMeet one one_by
   more_ticks r n l s p e h f =
       let t = reply src (first l) r.state in
-      let q : one_by (moved s) t r ≡ one r t = ap (λ (x : Result). one_by x t r) (sym e) in
+      let q : one_by (Ok s) t r ≡ one r t = ap (λ (x : Result PipelineCpu Refusal). one_by x t r) (sym e) in
       let w = f.ran.within in
       record {
         ran = record {
@@ -81,23 +82,23 @@ module _ (src : Source) (v : Start) where
         offers = ((λ s' a. meets r.state (first l)), subst (λ (x : Run). AllMeet P x p.ticks) q f.offers);
         fed = (
           left_after r.state l,
-          subst (λ (o : Result). FeedsBy P o r.state t l (left_after r.state l)) (sym e)
+          subst (λ (o : Result PipelineCpu Refusal). FeedsBy P o r.state t l (left_after r.state l)) (sym e)
               (feeds r.state s l h),
           subst (λ (x : Run). Fed P x (left_after r.state l) p.ticks) q f.fed,
         );
       }
 
   -- a turn, by what it does and the result of its tick
-  follows_by : (r : Run) (n : ℕ) (l : List ℕ) (u : Turn) (o : Result) (k : PipelineCpu → Played)
+  follows_by : (r : Run) (n : ℕ) (l : List ℕ) (u : Option End) (o : Result PipelineCpu Refusal) (k : PipelineCpu → Played)
       → turn_of r.state.stages r.state.counts false (is_empty l) ≡ u → tick r.state (reply src (first l)
       r.state) ≡ o
-      → ((s : PipelineCpu) → Follows (one_by (moved s) (reply src (first l) r.state) r) n
+      → ((s : PipelineCpu) → Follows (one_by (Ok s) (reply src (first l) r.state) r) n
       (left_after r.state l) (k s))
       → Follows r (suc n) l (play_by u o r.state (reply src (first l) r.state) k)
   unfolding play_by
-  follows_by r n l (Ends e) o k a b h = no_ticks e r (suc n) l
-  follows_by r n l Ticks (refused c) k a b h = no_ticks _ r (suc n) l
-  follows_by r n l Ticks (moved s) k a b h = more_ticks r n l s (k s) b (turn_load r.state l a) (h s)
+  follows_by r n l (Some e) o k a b h = no_ticks e r (suc n) l
+  follows_by r n l None (Err c) k a b h = no_ticks _ r (suc n) l
+  follows_by r n l None (Ok s) k a b h = more_ticks r n l s (k s) b (turn_load r.state l a) (h s)
 
   -- every run
   pub follows : (n : ℕ) (l : List ℕ) (r : Run) → Follows r n l (play src n l r.state)
@@ -107,7 +108,7 @@ module _ (src : Source) (v : Start) where
       follows_by r n l (turn_of r.state.stages r.state.counts false (is_empty l)) (tick r.state (reply src
       (first l) r.state))
       (λ s. play src n (left_after r.state l) s) refl refl
-      (λ s. follows n (left_after r.state l) (one_by (moved s) (reply src (first l) r.state) r))
+      (λ s. follows n (left_after r.state l) (one_by (Ok s) (reply src (first l) r.state) r))
 
 -- the ticks of a run
 pub run_ticks : RunTicks

@@ -3,7 +3,7 @@ use Prim.Native.Nat.{suc, zero, ℕ}
 use mathlib.Core.Bool.{Bool, cond, false, true}
 use mathlib.Core.List.{List, []}
 use mathlib.Core.Path.{◌∙◌, ◌≡◌, ap, refl, subst}
-use native.Mathlib.Omega.{arith}
+use Rattle.std.specs.Prelude.{Option, None, Some, is_some, Result, Ok, Err}
 use Rattle.accuracy.proofs.Took.{took}
 use Rattle.accuracy.specs.Accuracy.{Run, one, one_by, said, said_by}
 use Rattle.isa.proofs.Asks.{asks_none}
@@ -11,16 +11,15 @@ use Rattle.isa.proofs.Bools.{split}
 use Rattle.isa.specs.Effect.{marked, raises}
 use Rattle.isa.specs.Inquiries.{NotMfsr, look_up}
 use Rattle.isa.specs.Machine.{Source, first, is_empty}
-use Rattle.isa.specs.Redirects.{is_exception, is_to}
 use Rattle.isa.specs.Short.{decoded_of}
 use Rattle.latch.specs.Decode.{decode_predicted, id_ex_by, id_ex_of}
-use Rattle.latch.specs.Execute.{effect_from, effect_in}
+use Rattle.latch.specs.Execute.{effect_from, effect_in, raised_or}
 use Rattle.latch.specs.Latches.{cleared, empty_id_ex}
 use Rattle.latch.specs.Retire.{halts}
 use Rattle.pipeline.specs.Advance.{advance, move_of, next, resting}
 use Rattle.pipeline.specs.Ask.{fetch_at, want_fetch, want_special}
 use Rattle.pipeline.specs.Retire.{retire}
-use Rattle.pipeline.specs.Tick.{Result, moved, raw_of, refused, taken, tick}
+use Rattle.pipeline.specs.Tick.{raw_of, taken, tick}
 use Rattle.pipeline.specs.Turn.{reply}
 use Rattle.sheet.specs.Sheet.{sheet_source}
 use Rattle.stages.specs.Advance.{advance_by, advance_stages, awake, id_ex_after, if_id_after}
@@ -29,27 +28,31 @@ use Rattle.stages.specs.Fetch.{fetched, next_id_ex}
 use Rattle.stages.specs.Move.{inquiry_in, is_wait}
 use Rattle.stages.specs.Retire.{retire_stages}
 use Rattle.runs.specs.Claims.{AnyTable, Unasked, Without}
-use Rattle.runs.specs.Names.{DecNormal, Ends, Given, IdEx, IfId, Inquiry, Mode, Move}
-use Rattle.runs.specs.Names.{NoInquiry, Nop, PipelineCpu, Place, RawInstr, Special, Stages}
-use Rattle.runs.specs.Names.{Taken, Ticks, Turn, begin_wait, keep_waiting, load_use_stall, proceed, redirect}
+use Rattle.runs.specs.Names.{DecNormal, Effect, End, Exception, Given, IdEx, IfId, Mode, Move, Nop, PipelineCpu, Place}
+use Rattle.runs.specs.Names.{RawInstr, Refusal, Stages, Taken, begin_wait, keep_waiting, load_use_stall, proceed}
+use Rattle.runs.specs.Names.{redirect}
 use Rattle.runs.specs.Run.{Played, ended, left_after, more, play, play_by, ran, turn_of}
 
 -- NOP is no MFSR
 nop_not : NotMfsr (DecNormal Nop)
-nop_not rd sr e = let z : ◌≡◌ {A = ℕ} 0 1 = cc in omega arith
+nop_not rd sr e = cc
 
--- a latch without MFSR asks for nothing
-latch_none : (u : Bool) (l : IdEx) (x y : ℕ) → NotMfsr l.decoded → (effect_in u l x y).inquiry ≡ NoInquiry
-unfolding effect_in raises marked
-latch_none u l x y h = split (is_exception l.exception)
-    (λ e. rw e)
-    (λ e. rw e (asks_none u l.decoded l.pc x y h))
+-- an exception asks for nothing
+raised_none : (x : Option Exception) (e : Effect) → e.inquiry ≡ None → (raised_or x e).inquiry ≡ None
+unfolding raised_or raises marked
+raised_none None e h = h
+raised_none (Some x) e h = refl
 
-none_if : (b : Bool) (q : Inquiry) → q ≡ NoInquiry → cond b q NoInquiry ≡ NoInquiry
+-- nor does a latch without MFSR
+latch_none : (u : Bool) (l : IdEx) (x y : ℕ) → NotMfsr l.decoded → (effect_in u l x y).inquiry ≡ None
+unfolding effect_in
+latch_none u l x y h = raised_none l.exception _ (asks_none u l.decoded l.pc x y h)
+
+none_if : (b : Bool) (q : Option ℕ) → q ≡ None → cond b q None ≡ None
 none_if true q e = e
 none_if false q e = refl
 
-inquiry_none : (l : Stages) (rs : List ℕ) → NotMfsr l.id_ex.decoded → inquiry_of l rs ≡ NoInquiry
+inquiry_none : (l : Stages) (rs : List ℕ) → NotMfsr l.id_ex.decoded → inquiry_of l rs ≡ None
 unfolding inquiry_of inquiry_by effect_for effect_from
 inquiry_none l rs h = none_if l.id_ex.valid _ (latch_none l.user l.id_ex _ _ h)
 
@@ -61,7 +64,7 @@ retire_without s w = split (halts s.stages.mem_wb)
     (λ e. record { if_id = rw e w.if_id; id_ex = rw e w.id_ex })
 
 -- so such a state asks for nothing
-special_none : (s : PipelineCpu) → Without s → want_special s ≡ NoInquiry
+special_none : (s : PipelineCpu) → Without s → want_special s ≡ None
 unfolding want_special inquiry_in
 special_none s w = split (awake s.stages)
     (λ e. split (is_wait (move_of (retire s)))
@@ -91,12 +94,12 @@ unfolding advance advance_stages advance_by if_id_after id_ex_after cleared empt
 advance_without keep_waiting s x w h = record { if_id = w.if_id; id_ex = w.id_ex }
 advance_without begin_wait s x w h = record { if_id = w.if_id; id_ex = w.id_ex }
 advance_without (load_use_stall g) s x w h =
-    record { if_id = held_without (is_to g) s.stages.if_id w.if_id; id_ex = nop_not }
+    record { if_id = held_without (is_some g) s.stages.if_id w.if_id; id_ex = nop_not }
 advance_without proceed s x w h = record {
   if_id = fetched_without s.stages.running s.stages.if_id _ x.raw w.if_id h;
   id_ex = next_without s.stages s.reg w.if_id;
 }
-advance_without (redirect p m) s x w h = record {
+advance_without (redirect p) s x w h = record {
   if_id = fetched_without s.stages.running s.stages.if_id _ x.raw w.if_id h;
   id_ex = nop_not;
 }
@@ -119,40 +122,41 @@ reply_without src h v s = split (want_fetch s)
 
 -- a tick of such a run leaves such a state
 tick_without : (src : Source) → ((p : ℕ) (m : Mode) → NotMfsr (decoded_of (src.raw p m))) → (v : ℕ)
-    (s s' : PipelineCpu) → Without s → tick s (reply src v s) ≡ moved s' → Without s'
+    (s s' : PipelineCpu) → Without s → tick s (reply src v s) ≡ Ok s' → Without s'
 tick_without src h v s s' w e = subst Without (took s (reply src v s) s' e).is
     (goes_without s (taken (reply src v s)) w (reply_without src h v s))
 
 -- nothing is said in its ticks
-said_none : (o : Result) (c : Special) (l : List (ℕ × Special)) → said_by o NoInquiry c l ≡ l
+said_none : (o : Result PipelineCpu Refusal) (c : Option (Option ℕ)) (l : List (ℕ × Option (Option ℕ)))
+    → said_by o None c l ≡ l
 unfolding said_by
-said_none (refused n) c l = refl
-said_none (moved s) c l = refl
+said_none (Err n) c l = refl
+said_none (Ok s) c l = refl
 
 module _ (src : Source) (h : (p : ℕ) (m : Mode) → NotMfsr (decoded_of (src.raw p m))) where
-  unasked_by : (r : Run) (v : ℕ) (u : Turn) (o : Result) (k : PipelineCpu → Played)
+  unasked_by : (r : Run) (v : ℕ) (u : Option End) (o : Result PipelineCpu Refusal) (k : PipelineCpu → Played)
       → Without r.state → tick r.state (reply src v r.state) ≡ o
-      → ((s : PipelineCpu) → o ≡ moved s → said (one_by (moved s) (reply src v r.state) r) (k s).ticks ≡ [])
+      → ((s : PipelineCpu) → o ≡ Ok s → said (one_by (Ok s) (reply src v r.state) r) (k s).ticks ≡ [])
       → said r (play_by u o r.state (reply src v r.state) k).ticks ≡ []
   unfolding play_by ended more said one
-  unasked_by r v (Ends e) o k w q z = refl
-  unasked_by r v Ticks (refused n) k w q z = refl
-  unasked_by r v Ticks (moved s) k w q z =
+  unasked_by r v (Some e) o k w q z = refl
+  unasked_by r v None (Err n) k w q z = refl
+  unasked_by r v None (Ok s) k w q z =
       let t = reply src v r.state in
-      ap (λ (i : Inquiry). said_by (tick r.state t) i t.special (said (one r t) (k s).ticks))
+      ap (λ (i : Option ℕ). said_by (tick r.state t) i t.special (said (one r t) (k s).ticks))
       (special_none r.state w)
       ∙ said_none (tick r.state t) t.special _
-      ∙ ap (λ (o : Result). said (one_by o t r) (k s).ticks) q ∙ z s refl
+      ∙ ap (λ (o : Result PipelineCpu Refusal). said (one_by o t r) (k s).ticks) q ∙ z s refl
 
   unasked_run : (n : ℕ) (l : List ℕ) (r : Run) → Without r.state → said r (play src n l r.state).ticks ≡ []
   unfolding play ended said one_by
   unasked_run zero l r w = refl
   unasked_run (suc n) l r w = unasked_by r (first l) _ (tick r.state (reply src (first l) r.state)) _ w refl
-      (λ s e. unasked_run n (left_after r.state l) (one_by (moved s) (reply src (first l) r.state) r)
+      (λ s e. unasked_run n (left_after r.state l) (one_by (Ok s) (reply src (first l) r.state) r)
       (tick_without src h (first l) r.state s w e))
 
   -- another table
-  module _ (t' : ℕ → Special) where
+  module _ (t' : ℕ → Option (Option ℕ)) where
     abbrev src' : Source
     src' = record { raw = src.raw; table = t' }
 
@@ -160,12 +164,12 @@ module _ (src : Source) (h : (p : ℕ) (m : Mode) → NotMfsr (decoded_of (src.r
     unfolding reply look_up
     reply_same v s w = rw (special_none s w)
 
-    same_by : (u : Turn) (o : Result) (s : PipelineCpu) (t : Given) (k k' : PipelineCpu → Played)
-        → ((x : PipelineCpu) → o ≡ moved x → k x ≡ k' x) → play_by u o s t k ≡ play_by u o s t k'
+    same_by : (u : Option End) (o : Result PipelineCpu Refusal) (s : PipelineCpu) (t : Given) (k k' : PipelineCpu → Played)
+        → ((x : PipelineCpu) → o ≡ Ok x → k x ≡ k' x) → play_by u o s t k ≡ play_by u o s t k'
     unfolding play_by
-    same_by (Ends e) o s t k k' h = refl
-    same_by Ticks (refused n) s t k k' h = refl
-    same_by Ticks (moved x) s t k k' h = ap (more t) (h x refl)
+    same_by (Some e) o s t k k' h = refl
+    same_by None (Err n) s t k k' h = refl
+    same_by None (Ok x) s t k k' h = ap (more t) (h x refl)
 
     same_run : (n : ℕ) (l : List ℕ) (s : PipelineCpu) → Without s → play src n l s ≡ play src' n l s
     unfolding play

@@ -1,14 +1,14 @@
 -- Read this first: what is claimed of a run over any source of instructions. Here: Run (a run by its turns, and the
 -- runner on a sheet's bytes), Rows (those of RULES 22.1). Elsewhere: sheet has the records and the order of
 -- a turn, pipeline the tick and its refusals, isa the one-at-a-time machine, accuracy the formula and RULES 15.6.
-use Rattle.std.specs.Prelude.{◌+◌, ◌≤◌, ℕ, length, false, List, [], ◌≡◌}
+use Rattle.std.specs.Prelude.{◌+◌, ◌≤◌, ℕ, length, false, List, [], ◌≡◌, Ok}
 use Rattle.accuracy.specs.Accuracy.{Retires, Run, after, begin, said}
 use Rattle.accuracy.specs.Count.{path, retire_tick}
 use Rattle.isa.specs.Inquiries.{NotMfsr}
 use Rattle.isa.specs.Machine.{Arch, Program, Source, arch_with, machine, program_of}
 use Rattle.isa.specs.Short.{decoded_of}
 use Rattle.pipeline.specs.Start.{fresh}
-use Rattle.sheet.specs.Sheet.{SheetWithout, sheet_code, sheet_source}
+use Rattle.sheet.specs.Sheet.{SheetWithout, sheet_check, sheet_source}
 use Rattle.runs.specs.Names.{Halted, PipelineCpu, Ran, Start}
 use Rattle.runs.specs.Rows.{Rows}
 use Rattle.runs.specs.Run.{Played, play, ran}
@@ -54,7 +54,7 @@ SheetHalted =
 -- formula of N is within the limit, is reported halted with N retired.
 abbrev pub SheetHalts : Type 0
 SheetHalts =
-    (sheet table : List ℕ) → sheet_code sheet ≡ 0
+    (sheet table : List ℕ) → sheet_check sheet ≡ Ok tt
     → (v : Start) → length v.reg ≡ 32 → (limit : ℕ) (l : List ℕ) → limit ≤ 1000000
     → let prog = program_of (sheet_source sheet table) v in
     let w = arch_with v l in

@@ -1,19 +1,18 @@
 -- The declared types and constructors that this crate names, each under the name that the declaring crate gives it.
 pub use Rattle.isa.specs.declared.Mode.{Mode}
 pub use Rattle.isa.specs.declared.Mode.TheVariants.{Normal}
+pub use Rattle.isa.specs.declared.Place.{Place}
 pub use Rattle.isa.specs.declared.Start.{Start}
 pub use Rattle.isa.specs.declared.Instruction.TheVariants.{Nop}
 pub use Rattle.isa.specs.declared.RawInstr.{RawInstr}
 pub use Rattle.isa.specs.declared.Decoded.TheVariants.{Normal as DecNormal}
 pub use Rattle.isa.specs.declared.Request.{Request}
-pub use Rattle.isa.specs.declared.Inquiry.{Inquiry}
-pub use Rattle.isa.specs.declared.Inquiry.TheVariants.{None as NoInquiry, Of}
-pub use Rattle.isa.specs.declared.Special.{Special}
-pub use Rattle.isa.specs.declared.Special.TheVariants.{None as Unsaid, NoSuch, Word as SpecialWord}
+pub use Rattle.isa.specs.declared.Exception.{Exception}
+pub use Rattle.isa.specs.declared.Effect.{Effect}
+pub use Rattle.refusal.specs.declared.Refusal.{Refusal}
+pub use Rattle.refusal.specs.declared.Refusal.TheVariants.{Faulty, OutOfBounds}
 pub use Rattle.sheet.specs.declared.End.{End}
 pub use Rattle.sheet.specs.declared.End.TheVariants.{Halted, Spent, Refused as EndRefused, Loads}
-pub use Rattle.sheet.specs.declared.Turn.{Turn}
-pub use Rattle.sheet.specs.declared.Turn.TheVariants.{Ends, Ticks}
 pub use Rattle.latch.specs.declared.IfId.{IfId}
 pub use Rattle.latch.specs.declared.IdEx.{IdEx}
 pub use Rattle.latch.specs.declared.ExMem.{ExMem}
@@ -23,11 +22,8 @@ pub use Rattle.stages.specs.declared.Move.{Move}
 pub use Rattle.stages.specs.declared.Move.TheVariants.{KeepWaiting as keep_waiting, BeginWait as begin_wait}
 pub use Rattle.stages.specs.declared.Move.TheVariants.{LoadUseStall as load_use_stall, Proceed as proceed}
 pub use Rattle.stages.specs.declared.Move.TheVariants.{Redirect as redirect}
-pub use Rattle.stages.specs.declared.Place.{Place}
 pub use Rattle.stages.specs.declared.Stages.{Stages}
 pub use Rattle.stages.specs.declared.Counters.{Counters}
 pub use Rattle.pipeline.specs.declared.PipelineCpu.{PipelineCpu}
-pub use Rattle.pipeline.specs.declared.Offer.TheVariants.{Nothing, Instr}
-pub use Rattle.pipeline.specs.declared.Answer.TheVariants.{None as NoAnswer, Word}
 pub use Rattle.pipeline.specs.declared.Given.{Given}
 pub use Rattle.runs.specs.declared.Ran.{Ran}

@@ -1,13 +1,12 @@
 -- The rows of RULES 22.1 and 25.5, run from their sheets' bytes: one table, one claim.
-use Rattle.std.specs.Prelude.{ℕ, slice_index, replicate, false, true, List, [], ◌∷◌, map, ◌≡◌}
+use Rattle.std.specs.Prelude.{ℕ, slice_index, replicate, false, true, List, [], ◌∷◌, map, ◌≡◌, Option, None, Some}
 use Rattle.isa.specs.Machine.{zero_start}
 use Rattle.latch.specs.Bounds.{bad_width}
 use Rattle.pipeline.specs.Start.{fresh}
 use Rattle.sheet.specs.Samples.{mfsr_sheet, mfsr_table}
 use Rattle.sheet.specs.Sheet.{sheet_source}
 use Rattle.word.specs.Rows.{Rows as Arithmetic}
-use Rattle.runs.specs.Names.{End, EndRefused, Halted, Loads, NoSuch, Normal, Ran, Special, SpecialWord, Spent}
-use Rattle.runs.specs.Names.{Start, Unsaid}
+use Rattle.runs.specs.Names.{End, EndRefused, Faulty, Halted, Loads, Normal, Ran, Spent, Start}
 use Rattle.runs.specs.Run.{play, ran}
 
 -- the end; ticks used, retired, stalls, flushes, and register r
@@ -24,7 +23,7 @@ unfoldable pub row : List ℕ → ℕ → List ℕ → ℕ → End × List ℕ
 row sheet limit answers r = seen r (ran (fresh zero_start) sheet answers [] limit)
 
 -- a sheet's run with a table, from a start's values; and what each of its ticks said of a special register
-unfoldable pub table_row : Start → List ℕ → List ℕ → List ℕ → ℕ → (End × List ℕ) × List Special
+unfoldable pub table_row : Start → List ℕ → List ℕ → List ℕ → ℕ → (End × List ℕ) × List (Option (Option ℕ))
 table_row v sheet table answers r = (
   seen r (ran (fresh v) sheet answers table 1000000),
   map (λ t. t.special) (play (sheet_source sheet table) 1000000 answers (fresh v)).ticks,
@@ -98,21 +97,21 @@ pub record Rows : Type 0 where
       0x61 ∷ 0x92 ∷ 0x07 ∷ 0xF0 ∷ 0x00 ∷  -- pair 9207 F000: LDI R2,7; RET
       halt_sheet) 1000000 [] 2 ≡ (Halted, 12 ∷ 4 ∷ 0 ∷ 2 ∷ 7 ∷ [])
   -- the empty sheet offers Unknown 0 everywhere
-  pub empty : row [] 1000000 [] 0 ≡ (EndRefused 12, 4 ∷ 0 ∷ 0 ∷ 0 ∷ 0 ∷ [])
+  pub empty : row [] 1000000 [] 0 ≡ (EndRefused Faulty, 4 ∷ 0 ∷ 0 ∷ 0 ∷ 0 ∷ [])
   -- asked in tick 3; the word forwards, with no stall
   pub mfsr : table_row zero_start mfsr_sheet mfsr_table [] 3 ≡ (
     (Halted, 7 ∷ 3 ∷ 0 ∷ 0 ∷ 14 ∷ []),
-    Unsaid ∷ Unsaid ∷ SpecialWord 7 ∷ Unsaid ∷ Unsaid ∷ Unsaid ∷ Unsaid ∷ [],
+    None ∷ None ∷ Some (Some 7) ∷ None ∷ None ∷ None ∷ None ∷ [],
   )
   -- a table of 3 words
   pub mfsr_outside : table_row zero_start mfsr_sheet (0 ∷ 0 ∷ 0 ∷ []) [] 3 ≡ (
-    (EndRefused 12, 4 ∷ 0 ∷ 0 ∷ 0 ∷ 0 ∷ []),
-    Unsaid ∷ Unsaid ∷ NoSuch ∷ Unsaid ∷ [],
+    (EndRefused Faulty, 4 ∷ 0 ∷ 0 ∷ 0 ∷ 0 ∷ []),
+    None ∷ None ∷ Some None ∷ None ∷ [],
   )
   -- in user mode nothing is asked
   pub mfsr_user : table_row user_start mfsr_sheet mfsr_table [] 3 ≡ (
-    (EndRefused 12, 4 ∷ 0 ∷ 0 ∷ 0 ∷ 0 ∷ []),
-    Unsaid ∷ Unsaid ∷ Unsaid ∷ Unsaid ∷ [],
+    (EndRefused Faulty, 4 ∷ 0 ∷ 0 ∷ 0 ∷ 0 ∷ []),
+    None ∷ None ∷ None ∷ None ∷ [],
   )
   -- directly behind a HALT it asks in tick 4, and its word is not used
   pub mfsr_behind_halt : table_row zero_start (
@@ -120,7 +119,7 @@ pub record Rows : Type 0 where
       0x33 ∷ 0x01 ∷ 0x00 ∷ 0x00 ∷ 0x03 ∷  -- MFSR R1,3
       []) mfsr_table [] 1 ≡ (
         (Halted, 5 ∷ 1 ∷ 0 ∷ 0 ∷ 0 ∷ []),
-        Unsaid ∷ Unsaid ∷ Unsaid ∷ SpecialWord 7 ∷ Unsaid ∷ [],
+        None ∷ None ∷ None ∷ Some (Some 7) ∷ None ∷ [],
       )
   -- with a NOP between, the HALT empties its latch first
   pub mfsr_two_behind_halt : table_row zero_start (
@@ -129,14 +128,14 @@ pub record Rows : Type 0 where
       0x33 ∷ 0x01 ∷ 0x00 ∷ 0x00 ∷ 0x03 ∷  -- MFSR R1,3
       []) mfsr_table [] 1 ≡ (
         (Halted, 5 ∷ 1 ∷ 0 ∷ 0 ∷ 0 ∷ []),
-        Unsaid ∷ Unsaid ∷ Unsaid ∷ Unsaid ∷ Unsaid ∷ [],
+        None ∷ None ∷ None ∷ None ∷ None ∷ [],
       )
   pub mfsr_behind_unknown : table_row zero_start (
       0x60 ∷ 0x00 ∷ 0x00 ∷ 0x00 ∷ 0x00 ∷  -- Unknown 0
       0x33 ∷ 0x01 ∷ 0x00 ∷ 0x00 ∷ 0x03 ∷  -- MFSR R1,3
       []) mfsr_table [] 1 ≡ (
-        (EndRefused 12, 4 ∷ 0 ∷ 0 ∷ 0 ∷ 0 ∷ []),
-        Unsaid ∷ Unsaid ∷ Unsaid ∷ SpecialWord 7 ∷ [],
+        (EndRefused Faulty, 4 ∷ 0 ∷ 0 ∷ 0 ∷ 0 ∷ []),
+        None ∷ None ∷ None ∷ Some (Some 7) ∷ [],
       )
   -- it has no source, so it waits for no load
   pub mfsr_behind_load : table_row zero_start (
@@ -144,14 +143,14 @@ pub record Rows : Type 0 where
       0x33 ∷ 0x01 ∷ 0x00 ∷ 0x00 ∷ 0x03 ∷  -- MFSR R1,3
       halt_sheet) mfsr_table (21 ∷ []) 1 ≡ (
         (Halted, 7 ∷ 3 ∷ 0 ∷ 0 ∷ 7 ∷ []),
-        Unsaid ∷ Unsaid ∷ Unsaid ∷ SpecialWord 7 ∷ Unsaid ∷ Unsaid ∷ Unsaid ∷ [],
+        None ∷ None ∷ None ∷ Some (Some 7) ∷ None ∷ None ∷ None ∷ [],
       )
   -- into R0 it asks, and writes nothing
   pub mfsr_into_zero : table_row zero_start (
       0x33 ∷ 0x00 ∷ 0x00 ∷ 0x00 ∷ 0x03 ∷  -- MFSR R0,3
       halt_sheet) mfsr_table [] 0 ≡ (
         (Halted, 6 ∷ 2 ∷ 0 ∷ 0 ∷ 0 ∷ []),
-        Unsaid ∷ Unsaid ∷ SpecialWord 7 ∷ Unsaid ∷ Unsaid ∷ Unsaid ∷ [],
+        None ∷ None ∷ Some (Some 7) ∷ None ∷ None ∷ None ∷ [],
       )
   -- of the widths 0 to 5 and 8, those that no access has
   pub widths : map bad_width (0 ∷ 1 ∷ 2 ∷ 3 ∷ 4 ∷ 5 ∷ 8 ∷ []) ≡ (

@@ -1,18 +1,20 @@
 -- A run: turns in the order of RULES 18.2, over any source.
-use Rattle.std.specs.Prelude.{suc, zero, ℕ, nat_lt, length, Bool, ◌&&◌, cond, false, List, [], ◌∷◌}
+use Rattle.std.specs.Prelude.{suc, zero, ℕ, length, Bool, ◌&&◌, cond, false, List, [], ◌∷◌, Option, None, Some}
+use Rattle.std.specs.Prelude.{Result, Ok, Err, ⊤}
+use Rattle.std.specs.Result.{result_and}
 use Rattle.isa.specs.Machine.{Source, first, is_empty, rest}
-use Rattle.pipeline.specs.Tick.{Result, moved, refused, tick}
+use Rattle.pipeline.specs.Tick.{tick}
 use Rattle.pipeline.specs.Turn.{reply}
-use Rattle.sheet.specs.Sheet.{limited_code, sheet_source}
+use Rattle.sheet.specs.Sheet.{limited_check, sheet_source}
 use Rattle.sheet.specs.Turns.{turn_by}
 use Rattle.stages.specs.Counting.{counter_full}
 use Rattle.stages.specs.Loads.{want_load}
 use Rattle.stages.specs.Refusals.{faulty, out_of_bounds}
-use Rattle.runs.specs.Names.{Counters, End, EndRefused, Ends, Given, Halted, PipelineCpu, Ran, Spent, Stages}
-use Rattle.runs.specs.Names.{Ticks, Turn}
+use Rattle.runs.specs.Names.{Counters, End, EndRefused, Given, Halted, OutOfBounds, PipelineCpu, Ran, Refusal, Spent}
+use Rattle.runs.specs.Names.{Stages}
 
--- what a turn does: whether the limit is used up, whether no answer is left
-unfoldable pub turn_of : Stages → Counters → Bool → Bool → Turn
+-- how a turn ends the run, if it does: whether the limit is used up, whether no answer is left
+unfoldable pub turn_of : Stages → Counters → Bool → Bool → Option End
 turn_of l c spent none = turn_by l.running spent (faulty l) (counter_full c) (want_load l && none)
 
 -- a run: its end, the state then, the ticks done
@@ -30,10 +32,10 @@ unfoldable pub more : Given → Played → Played
 more t p = record { end = p.end; state = p.state; ticks = t ∷ p.ticks }
 
 -- a turn, by the result of its tick and the run behind it
-unfoldable pub play_by : Turn → Result → PipelineCpu → Given → (PipelineCpu → Played) → Played
-play_by (Ends e) o s t k = ended e s
-play_by Ticks (refused c) s t k = ended (EndRefused c) s
-play_by Ticks (moved s') s t k = more t (k s')
+unfoldable pub play_by : Option End → Result PipelineCpu Refusal → PipelineCpu → Given → (PipelineCpu → Played) → Played
+play_by (Some e) o s t k = ended e s
+play_by None (Err r) s t k = ended (EndRefused r) s
+play_by None (Ok s') s t k = more t (k s')
 
 -- the answers left behind a tick
 unfoldable pub left_after : PipelineCpu → List ℕ → List ℕ
@@ -50,17 +52,21 @@ play src (suc n) l s =
 unfoldable pub reported : Played → Ran
 reported p = record { end = p.end; ticks = length p.ticks; state = p.state }
 
--- the refusals before the first turn: 6, per record 5, 1; 7: a limit above 1,000,000; 11
-unfoldable pub run_code : PipelineCpu → List ℕ → ℕ → ℕ
-run_code s sheet limit =
-    cond (nat_lt 0 (limited_code sheet limit)) (limited_code sheet limit) (cond (out_of_bounds s.stages) 11 0)
+-- the check before the first turn: 6, per record 5, 1; 7: a limit above 1,000,000; 11
+unfoldable pub run_check : PipelineCpu → List ℕ → ℕ → Result ⊤ Refusal
+run_check s sheet limit =
+    result_and (limited_check sheet limit) (cond (out_of_bounds s.stages) (Err OutOfBounds) (Ok tt))
 
 -- a run refused before its first tick gives the state that it was given
-unfoldable pub refused_run : ℕ → PipelineCpu → Ran
-refused_run n s = record { end = EndRefused n; ticks = 0; state = s }
+unfoldable pub refused_run : Refusal → PipelineCpu → Ran
+refused_run r s = record { end = EndRefused r; ticks = 0; state = s }
+
+-- by a check before it: refused, else run p
+unfoldable pub checked_run : Result ⊤ Refusal → PipelineCpu → Ran → Ran
+checked_run (Err r) s p = refused_run r s
+checked_run (Ok x) s p = p
 
 -- the runner: a state, a sheet's bytes, load answers, a table of special registers and a tick limit
 unfoldable pub ran : PipelineCpu → List ℕ → List ℕ → List ℕ → ℕ → Ran
 ran s sheet answers table limit =
-    cond (nat_lt 0 (run_code s sheet limit)) (refused_run (run_code s sheet limit) s)
-    (reported (play (sheet_source sheet table) limit answers s))
+    checked_run (run_check s sheet limit) s (reported (play (sheet_source sheet table) limit answers s))

@@ -1,33 +1,21 @@
 -- The answers left, by how many are used. Assumes nothing.
 use Prim.Native.Nat.{◌+◌, ◌<◌, ◌≤◌, suc, zero, ℕ}
-use borrow.Author.Tests.{leb-false, leb-true, lt-ltb}
+use borrow.Author.Tests.{lt-ltb}
 use lib.Dec.{leb}
 use lib.ListN.{drop, get_or, length}
 use mathlib.Core.Bool.{Bool, cond, false, true}
 use mathlib.Core.List.{List, [], ◌∷◌}
 use mathlib.Core.Path.{◌∙◌, ◌≡◌, ap, refl}
 use native.Mathlib.Omega.{arith}
-use Rattle.isa.proofs.Bools.{split}
 use Rattle.isa.specs.Machine.{first, is_empty, rest}
 use Rattle.sheet.specs.Turns.{used_after}
 
-none_left : (l : List ℕ) (k : ℕ) → length l ≤ k → is_empty (drop k l) ≡ true
-unfolding is_empty
-none_left [] zero h = refl
-none_left [] (suc k) h = refl
-none_left (x ∷ l) zero h = absurd (omega arith)
-none_left (x ∷ l) (suc k) h = none_left l k (omega arith)
-
-some_left : (l : List ℕ) (k : ℕ) → k < length l → is_empty (drop k l) ≡ false
-unfolding is_empty
-some_left [] k h = absurd (omega arith)
-some_left (x ∷ l) zero h = refl
-some_left (x ∷ l) (suc k) h = some_left l k (omega arith)
-
 pub left_empty : (l : List ℕ) (k : ℕ) → is_empty (drop k l) ≡ leb (length l) k
-left_empty l k = split (leb (length l) k)
-    (λ e. rw e (none_left l k (leb-true (length l) k e)))
-    (λ e. rw e (some_left l k (leb-false (length l) k e)))
+unfolding is_empty
+left_empty [] zero = grind arith
+left_empty [] (suc k) = grind arith
+left_empty (x ∷ l) zero = grind arith
+left_empty (x ∷ l) (suc k) = grind (arith, left_empty l k)
 
 pub left_first : (l : List ℕ) (k : ℕ) → first (drop k l) ≡ get_or l k 0
 unfolding first
@@ -42,13 +30,6 @@ left_rest [] zero = refl
 left_rest [] (suc k) = refl
 left_rest (x ∷ l) zero = refl
 left_rest (x ∷ l) (suc k) = left_rest l k
-
--- no answer past the last
-pub past_last : (l : List ℕ) (k : ℕ) → length l ≤ k → 0 ≡ get_or l k 0
-past_last [] zero h = refl
-past_last [] (suc k) h = refl
-past_last (x ∷ l) zero h = absurd (omega arith)
-past_last (x ∷ l) (suc k) h = past_last l k (omega arith)
 
 -- behind a load that has an answer, or behind what is no load
 pub left_after_lem : (b : Bool) (l : List ℕ) (k : ℕ) → (b ≡ true → k < length l)

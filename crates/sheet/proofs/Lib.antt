@@ -1,3 +1,4 @@
 pub mod Fair
 pub mod Left
 pub mod Limit
+pub mod Refused

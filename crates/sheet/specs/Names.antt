@@ -9,11 +9,10 @@ pub use Rattle.isa.specs.declared.Instruction.TheVariants.{Ldh, Stb, Sth, Ldil, 
 pub use Rattle.isa.specs.declared.Instruction.TheVariants.{Mtsr}
 pub use Rattle.isa.specs.declared.RawInstr.{RawInstr}
 pub use Rattle.isa.specs.declared.RawInstr.TheVariants.{Normal as RawNormal, Short as RawShort}
-pub use Rattle.isa.specs.declared.Special.{Special}
-pub use Rattle.isa.specs.declared.Special.TheVariants.{NoSuch, Word as SpecialWord}
+pub use Rattle.refusal.specs.declared.Refusal.{Refusal}
+pub use Rattle.refusal.specs.declared.Refusal.TheVariants.{BadCommand, BadLength, BadLimit, BadRegister, CounterFull}
+pub use Rattle.refusal.specs.declared.Refusal.TheVariants.{Faulty}
 pub use Rattle.sheet.specs.declared.Record.{Record}
-pub use Rattle.sheet.specs.declared.Record.TheVariants.{None as NoRecord, Line, Pair}
+pub use Rattle.sheet.specs.declared.Record.TheVariants.{Line, Pair}
 pub use Rattle.sheet.specs.declared.End.{End}
 pub use Rattle.sheet.specs.declared.End.TheVariants.{Halted, Spent, Refused as EndRefused, Loads}
-pub use Rattle.sheet.specs.declared.Turn.{Turn}
-pub use Rattle.sheet.specs.declared.Turn.TheVariants.{Ends, Ticks}

@@ -1,9 +1,9 @@
 -- The step sheet's records: a command byte, then four operand bytes; 16-bit fields high byte first; unused bytes zero.
-use Rattle.std.specs.Prelude.{◌*◌, ◌+◌, ℕ, ◌==◌, nat_le, ℤ, Bool, ◌&&◌, cond, false, true}
+use Rattle.std.specs.Prelude.{◌*◌, ◌+◌, ℕ, ◌==◌, nat_le, ℤ, Bool, ◌&&◌, cond, false, true, Option, None, Some}
 use Rattle.isa.specs.Short.{low_bits}
 use Rattle.sheet.specs.Names.{Add, Addi, And, Beq, Bne, Cpuid, Div, Divu, Halt, Instruction, Iret, Jal, Jalr}
 use Rattle.sheet.specs.Names.{Jalrs, Jals, Jmp, Jmps, Jr, Jrs, Ld, Ldb, Ldh, Ldih, Ldil, Line, Mfsr, Mod, Mtsr}
-use Rattle.sheet.specs.Names.{Mul, Mulh, NoRecord, Nop, Or, Pair, Record, Sla, Sll, Slt, Sltu, Sra, Srl, St, Stb}
+use Rattle.sheet.specs.Names.{Mul, Mulh, Nop, Or, Pair, Record, Sla, Sll, Slt, Sltu, Sra, Srl, St, Stb}
 use Rattle.sheet.specs.Names.{Sth, Sub, Syscall, Unknown, Xor}
 
 -- 16 bits, high byte first
@@ -15,9 +15,9 @@ unfoldable pub zeros : ℕ → ℕ → ℕ → ℕ → Bool
 zeros a b d e = (a == 0 && b == 0) && (d == 0 && e == 0)
 
 -- the instruction, where its unused bytes are zero
-unfoldable pub line_if : Bool → Instruction → Record
-line_if true i = Line i
-line_if false i = NoRecord
+unfoldable pub line_if : Bool → Instruction → Option Record
+line_if true i = Some (Line i)
+line_if false i = None
 
 -- 00 NOP, 01 CPUID, 02 HALT, 03 IRET
 unfoldable pub plain_of : ℕ → Instruction
@@ -81,15 +81,16 @@ far_of c n =
 unfoldable pub within : ℕ → ℕ → ℕ → Bool
 within c l h = nat_le l c && nat_le c h
 
--- the record of a command and its operand bytes; 60 Unknown: 32 bits; 61: two short halfwords
-unfoldable pub record_of : ℕ → ℕ → ℕ → ℕ → ℕ → Record
+-- the record of a command and its operand bytes; 60 Unknown: 32 bits; 61: two short halfwords; none for any other
+-- command, and where an unused byte is not zero
+unfoldable pub record_of : ℕ → ℕ → ℕ → ℕ → ℕ → Option Record
 record_of c a b d e =
     cond (within c 0x00 0x03) (line_if (zeros a b d e) (plain_of c))
     (cond (within c 0x10 0x1F) (line_if (e == 0) (three_of c a b d))
-    (cond (within c 0x20 0x28) (Line (offset_of c a b (low_bits 15 (both d e))))
+    (cond (within c 0x20 0x28) (Some (Line (offset_of c a b (low_bits 15 (both d e)))))
     (cond (within c 0x30 0x33) (line_if (b == 0) (half_of c a (both d e)))
     (cond (within c 0x40 0x43) (line_if (zeros 0 b d e) (jump_of c a))
     (cond (within c 0x50 0x54) (line_if (zeros a b 0 0) (far_of c (both d e)))
-    (cond (c == 0x60) (Line (Unknown (both a b) (both d e)))
-    (cond (c == 0x61) (Pair (both a b) (both d e))
-    NoRecord)))))))
+    (cond (c == 0x60) (Some (Line (Unknown (both a b) (both d e))))
+    (cond (c == 0x61) (Some (Pair (both a b) (both d e)))
+    None)))))))

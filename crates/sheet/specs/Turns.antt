@@ -1,16 +1,17 @@
 -- The order of a turn, and the answers that turns use.
-use Rattle.std.specs.Prelude.{◌+◌, ℕ, nat_lt, Bool, ◌&&◌, cond, not}
-use Rattle.sheet.specs.Names.{EndRefused, Ends, Halted, Loads, Spent, Ticks, Turn}
+use Rattle.std.specs.Prelude.{◌+◌, ℕ, nat_lt, Bool, ◌&&◌, cond, not, Option, None, Some}
+use Rattle.sheet.specs.Names.{CounterFull, End, EndRefused, Faulty, Halted, Loads, Spent}
 
--- not running, halted; limit used up, spent; 12 or 13, refused; a load wanted and no answer left, loads; else one tick
-unfoldable pub turn_by : Bool → Bool → Bool → Bool → Bool → Turn
+-- not running, halted; limit used up, spent; a faulty instruction or a counter at its top, refused; a load wanted and no
+-- answer left, loads; else the turn ends nothing: it is one more tick
+unfoldable pub turn_by : Bool → Bool → Bool → Bool → Bool → Option End
 turn_by running spent faulty full unanswered =
-    cond (not running) (Ends Halted)
-    (cond spent (Ends Spent)
-    (cond faulty (Ends (EndRefused 12))
-    (cond full (Ends (EndRefused 13))
-    (cond unanswered (Ends Loads)
-    Ticks))))
+    cond (not running) (Some Halted)
+    (cond spent (Some Spent)
+    (cond faulty (Some (EndRefused Faulty))
+    (cond full (Some (EndRefused CounterFull))
+    (cond unanswered (Some Loads)
+    None))))
 
 -- how many answers are used behind a load, and behind what is none, of n
 unfoldable pub used_after : Bool → ℕ → ℕ → ℕ

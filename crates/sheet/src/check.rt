@@ -1,91 +1,89 @@
 // The check of a whole sheet.
 ghost use Rattle.std.specs.Prelude.{◌≡◌};
-ghost use Rattle.sheet.specs.Sheet.{bad_length, code_at, first_code, first_refused, limited_code, record_code};
-ghost use Rattle.sheet.specs.Sheet.{sheet_code};
+ghost use Rattle.sheet.specs.Sheet.{bad_length, check_at, first_check, first_refused, limited_check, record_check};
+ghost use Rattle.sheet.specs.Sheet.{sheet_check};
 
 use crate::Record;
 use crate::offer::record_at;
+use refusal::Refusal;
 
-impl Record {
-    // 5: no such command, or an unused byte not zero; else the code of its instruction.
-    #[tactic(auto, unfolding(crate::specs::Sheet::record_code))]
-    fn code(self) -> u32
-        ensures { result ≡ record_code self }
-    {
-        match self {
-            Record::None => 5,
-            Record::Line(i) => i.code(),
-            Record::Pair(_, _) => 0,
-        }
+// The length in bytes of the longest sheet.
+pub const MAX_LENGTH: usize = 20_480;
+
+// The highest limit of a run or a play.
+pub const MAX_LIMIT: u32 = 1_000_000;
+
+// The check of a record: no such command or an unused byte not zero, then a register above 31.
+#[tactic(auto, unfolding(crate::specs::Sheet::record_check))]
+fn check_record(r: Option<Record>) -> Result<(), Refusal>
+    ensures { result ≡ record_check r }
+{
+    match r.ok_or(Refusal::BadCommand)? {
+        Record::Line(i) if !i.in_bounds() => Err(Refusal::BadRegister),
+        _ => Ok(()),
     }
 }
 
-// The code of record k.
-#[tactic(auto, unfolding(crate::specs::Sheet::code_at))]
-fn code_at(sheet: &[u8], k: u32) -> u32
-    ensures { result ≡ code_at sheet.now k }
+// The check of record k.
+#[tactic(auto, unfolding(crate::specs::Sheet::check_at))]
+fn check_at(sheet: &[u8], k: u32) -> Result<(), Refusal>
+    ensures { result ≡ check_at sheet.now k }
 {
-    record_at(sheet, k).code()
+    check_record(record_at(sheet, k))
 }
 
-// The first of so many records that has a code; their number where none has.
-#[tactic(auto, unfolding(crate::specs::Sheet::first_refused))]
+// The first of so many records that is refused; their number where none is.
+#[tactic(auto, using(crate::proofs::Refused::passed), unfolding(crate::specs::Sheet::first_refused))]
 pub fn first_refused(sheet: &[u8], count: u32) -> u32
     ensures { result ≡ first_refused sheet.now 0 count }
 {
-    let mut k: u32 = 0;
-    while k < count {
-        if 0 < code_at(sheet, k) {
+    for k in 0..count {
+        if check_at(sheet, k).is_err() {
             return k;
         }
-        k += 1;
     }
-    k
+    count
 }
 
-// The first code among so many records.
-#[tactic(auto, unfolding(crate::specs::Sheet::first_code))]
-fn first_code(sheet: &[u8], count: u32) -> u32
-    ensures { result ≡ first_code sheet.now count }
+// The check of so many records in order, up to the first that is refused.
+#[tactic(auto, using(crate::proofs::Refused::passed, crate::proofs::Refused::met), unfolding(crate::specs::Sheet::first_check, crate::specs::Sheet::first_refused))]
+fn first_check(sheet: &[u8], count: u32) -> Result<(), Refusal>
+    ensures { result ≡ first_check sheet.now count }
 {
-    let k = first_refused(sheet, count);
-    if k < count {
-        return code_at(sheet, k);
+    for k in 0..count {
+        check_at(sheet, k)?;
     }
-    0
+    Ok(())
 }
 
-// 6: a length that is no multiple of 5, or above 20,480 bytes.
+// Whether a length is no multiple of 5, or above 20,480 bytes.
 #[tactic(auto, unfolding(crate::specs::Sheet::bad_length))]
 pub fn bad_length(n: usize) -> bool
     ensures { result ≡ bad_length n }
 {
-    (n % 5 != 0) | (20480 < n)
+    n % Record::SIZE != 0 || n > MAX_LENGTH
 }
 
-// 6, then per record 5, 1; 0 for a sheet that is none of these.
-#[tactic(auto, unfolding(crate::specs::Sheet::bad_length, crate::specs::Sheet::sheet_code))]
-pub fn check(sheet: &[u8]) -> u32
-    ensures { result ≡ sheet_code sheet.now }
+// The check of a sheet: its length, then its records.
+#[tactic(auto, unfolding(crate::specs::Sheet::bad_length, crate::specs::Sheet::sheet_check))]
+pub fn check(sheet: &[u8]) -> Result<(), Refusal>
+    ensures { result ≡ sheet_check sheet.now }
 {
     let n = sheet.len();
     if bad_length(n) {
-        return 6;
+        return Err(Refusal::BadLength);
     }
-    first_code(sheet, (n / 5) as u32)
+    first_check(sheet, (n / Record::SIZE) as u32)
 }
 
-// The same, then 7: a limit above 1,000,000.
-#[tactic(auto, unfolding(crate::specs::Sheet::limited_code))]
-pub fn check_limited(sheet: &[u8], limit: u32) -> u32
-    ensures { result ≡ limited_code sheet.now limit }
+// The same, then the check of a limit.
+#[tactic(auto, unfolding(crate::specs::Sheet::limited_check))]
+pub fn check_limited(sheet: &[u8], limit: u32) -> Result<(), Refusal>
+    ensures { result ≡ limited_check sheet.now limit }
 {
-    let k = check(sheet);
-    if 0 < k {
-        return k;
+    check(sheet)?;
+    if limit > MAX_LIMIT {
+        return Err(Refusal::BadLimit);
     }
-    if 1000000 < limit {
-        return 7;
-    }
-    0
+    Ok(())
 }

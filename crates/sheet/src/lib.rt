@@ -2,11 +2,11 @@
 //
 // Wrong programs that the promises rule out, for each function two:
 // - bad_length: 20,480 bytes refused; 20,485 accepted.
-// - check: 1 for a record with a register above 31 and an unused byte not zero; 20,485 bytes accepted.
+// - check: a register above 31 for a record that has an unused byte not zero too; 20,485 bytes accepted.
 // - first_refused: a record with an unused byte not zero passed over; the last refused record.
-// - check_limited: 7 before 6; 7 for a limit of 1,000,000.
+// - check_limited: the limit before the length; a limit of 1,000,000 refused.
 // - offer_at: the second halfword of a pair at its first address; a NOP outside the sheet.
-// - turn_by: spent before halted; loads before refused 12.
+// - turn_by: spent before halted; loads before a faulty instruction.
 // - answer_at: the answer before; the last one where none is left.
 // - used_after: one more where nothing is loaded; one more where none is left.
 // - special_at: the neighbour's word (neighbour_register); the last word for a number past the table's end.
@@ -20,27 +20,25 @@ pub mod specials;
 pub mod turns;
 
 use isa::Instruction;
+use refusal::Refusal;
 
-// A record: a Normal instruction, a pair of short halfwords, or neither.
+// A record: a Normal instruction, or a pair of short halfwords.
 #[derive(Clone, Copy)]
 pub enum Record {
-    None,
     Line(Instruction),
     Pair(u16, u16),
 }
 
+impl Record {
+    // Its length in bytes.
+    pub const SIZE: usize = 5;
+}
+
 // How a run ends.
-#[derive(Clone, Copy)]
+#[derive(Clone, Copy, Debug, PartialEq, Eq)]
 pub enum End {
     Halted,
     Spent,
-    Refused(u32),
+    Refused(Refusal),
     Loads,
-}
-
-// What a turn of a run does.
-#[derive(Clone, Copy)]
-pub enum Turn {
-    Ends(End),
-    Ticks,
 }

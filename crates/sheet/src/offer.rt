@@ -1,27 +1,21 @@
 // What a sheet offers a fetch.
 ghost use Rattle.std.specs.Prelude.{◌≡◌};
-ghost use Rattle.sheet.specs.Sheet.{line_offer, offer_at, offer_in, pair_offer, record_at, unknown_of};
+ghost use Rattle.sheet.specs.Sheet.{offer_at, offer_in, record_at, unknown_of};
 
 use crate::Record;
 use crate::records::record_of;
-use isa::{Instruction, Mode, RawInstr};
+use isa::{Instruction, Mode, Place, RawInstr};
 
 // Record k of a sheet; none outside it.
 #[tactic(auto, unfolding(crate::specs::Sheet::record_at))]
-pub(crate) fn record_at(sheet: &[u8], k: u32) -> Record
+pub(crate) fn record_at(sheet: &[u8], k: u32) -> Option<Record>
     ensures { result ≡ record_at sheet.now k }
 {
-    let at = (k as usize) * 5;
-    if at + 4 < sheet.len() {
-        return record_of(
-            sheet[at],
-            sheet[at + 1],
-            sheet[at + 2],
-            sheet[at + 3],
-            sheet[at + 4],
-        );
-    }
-    Record::None
+    let at = k as usize * Record::SIZE;
+    let [c, a, b, d, e] = sheet.get(at..at + Record::SIZE)? else {
+        return None;
+    };
+    record_of(*c, *a, *b, *d, *e)
 }
 
 // What stands for an instruction where there is none.
@@ -35,59 +29,24 @@ fn unknown_of(mode: Mode) -> RawInstr
     }
 }
 
-// A Normal instruction stands at the first of its four bytes.
-#[tactic(auto, unfolding(crate::specs::Sheet::line_offer))]
-fn line_offer(i: Instruction, low: u32, mode: Mode) -> RawInstr
-    ensures { result ≡ line_offer i low mode }
+// What a record offers at a byte of its four. A Normal instruction stands at the first; two halfwords stand at the
+// first and the third.
+#[tactic(auto, unfolding(crate::specs::Sheet::offer_in, crate::specs::Sheet::line_offer, crate::specs::Sheet::pair_offer))]
+fn offer_in(r: Option<Record>, low: u32, mode: Mode) -> RawInstr
+    ensures { result ≡ offer_in r low mode }
 {
-    match mode {
-        Mode::Normal => {
-            if low == 0 {
-                return RawInstr::Normal(i);
-            }
-            unknown_of(mode)
-        }
-        Mode::Short => unknown_of(mode),
+    match (r, mode, low) {
+        (Some(Record::Line(i)), Mode::Normal, 0) => RawInstr::Normal(i),
+        (Some(Record::Pair(h, _)), Mode::Short, 0) => RawInstr::Short(h),
+        (Some(Record::Pair(_, g)), Mode::Short, 2) => RawInstr::Short(g),
+        _ => unknown_of(mode),
     }
 }
 
-// Two halfwords stand at the first and the third.
-#[tactic(auto, unfolding(crate::specs::Sheet::pair_offer))]
-fn pair_offer(h: u16, g: u16, low: u32, mode: Mode) -> RawInstr
-    ensures { result ≡ pair_offer h g low mode }
-{
-    match mode {
-        Mode::Normal => unknown_of(mode),
-        Mode::Short => {
-            if low == 0 {
-                return RawInstr::Short(h);
-            }
-            if low == 2 {
-                return RawInstr::Short(g);
-            }
-            unknown_of(mode)
-        }
-    }
-}
-
-impl Record {
-    // What a record offers at a byte of its four.
-    #[tactic(auto, unfolding(crate::specs::Sheet::offer_in))]
-    fn offer(self, low: u32, mode: Mode) -> RawInstr
-        ensures { result ≡ offer_in self low mode }
-    {
-        match self {
-            Record::None => unknown_of(mode),
-            Record::Line(i) => line_offer(i, low, mode),
-            Record::Pair(h, g) => pair_offer(h, g, low, mode),
-        }
-    }
-}
-
-// What a sheet offers at an address and mode.
+// What a sheet offers at a place.
 #[tactic(auto, unfolding(crate::specs::Sheet::offer_at))]
-pub fn offer_at(sheet: &[u8], pc: u32, mode: Mode) -> RawInstr
-    ensures { result ≡ offer_at sheet.now pc mode }
+pub fn offer_at(sheet: &[u8], at: Place) -> RawInstr
+    ensures { result ≡ offer_at sheet.now at.pc at.mode }
 {
-    record_at(sheet, pc / 4).offer(pc % 4, mode)
+    offer_in(record_at(sheet, at.pc / 4), at.pc % 4, at.mode)
 }

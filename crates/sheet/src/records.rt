@@ -2,8 +2,7 @@
 ghost use Rattle.std.specs.Prelude.{◌≡◌};
 ghost use Rattle.isa.specs.Short.{low_bits};
 ghost use Rattle.sheet.specs.Records.{both, far_of, half_of, jump_of, line_if, offset_of, plain_of, record_of};
-ghost use Rattle.sheet.specs.Records.{three_of};
-ghost use Rattle.sheet.specs.Records.{zeros};
+ghost use Rattle.sheet.specs.Records.{three_of, zeros};
 
 use crate::Record;
 use isa::Instruction;
@@ -13,19 +12,15 @@ use isa::Instruction;
 fn both(h: u8, l: u8) -> u16
     ensures { result ≡ both h l }
 {
-    (h as u16) * 256 + (l as u16)
+    u16::from_be_bytes([h, l])
 }
 
 // The same, signed.
-#[tactic(auto, unfolding(isa::specs::Short::low_bits))]
+#[tactic(auto, unfolding(isa::specs::Short::low_bits, crate::specs::Records::both))]
 fn signed(h: u8, l: u8) -> i16
     ensures { result ≡ low_bits 15 (both h l) }
 {
-    let x = both(h, l);
-    if x < 32768 {
-        return x as i16;
-    }
-    ((x as i32) - 65536) as i16
+    i16::from_be_bytes([h, l])
 }
 
 // Every byte is zero.
@@ -33,18 +28,15 @@ fn signed(h: u8, l: u8) -> i16
 fn zeros(a: u8, b: u8, d: u8, e: u8) -> bool
     ensures { result ≡ zeros a b d e }
 {
-    ((a == 0) & (b == 0)) & ((d == 0) & (e == 0))
+    a == 0 && b == 0 && d == 0 && e == 0
 }
 
 // The instruction, where its unused bytes are zero.
 #[tactic(auto, unfolding(crate::specs::Records::line_if))]
-fn line_if(zero: bool, i: Instruction) -> Record
+fn line_if(zero: bool, i: Instruction) -> Option<Record>
     ensures { result ≡ line_if zero i }
 {
-    if zero {
-        return Record::Line(i);
-    }
-    Record::None
+    zero.then_some(Record::Line(i))
 }
 
 // 00 to 03.
@@ -156,20 +148,22 @@ fn far_of(c: u8, h: u8, l: u8) -> Instruction
     }
 }
 
-// The record of a command byte and four operand bytes.
+// The record of a command byte and four operand bytes; none where there is no such command or an unused byte is not
+// zero. A command is a byte of the sheet and is read by ranges, as the list of commands has them (RULES 16): no enum
+// stands between it and the instruction, which is one already.
 #[tactic(auto, unfolding(crate::specs::Records::within, crate::specs::Records::record_of))]
-pub(crate) fn record_of(c: u8, a: u8, b: u8, d: u8, e: u8) -> Record
+pub(crate) fn record_of(c: u8, a: u8, b: u8, d: u8, e: u8) -> Option<Record>
     ensures { result ≡ record_of c a b d e }
 {
     match c {
         0x00..=0x03 => line_if(zeros(a, b, d, e), plain_of(c)),
         0x10..=0x1F => line_if(e == 0, three_of(c, a, b, d)),
-        0x20..=0x28 => Record::Line(offset_of(c, a, b, signed(d, e))),
+        0x20..=0x28 => Some(Record::Line(offset_of(c, a, b, signed(d, e)))),
         0x30..=0x33 => line_if(b == 0, half_of(c, a, both(d, e))),
         0x40..=0x43 => line_if(zeros(0, b, d, e), jump_of(c, a)),
         0x50..=0x54 => line_if(zeros(a, b, 0, 0), far_of(c, d, e)),
-        0x60 => Record::Line(Instruction::Unknown(both(a, b), both(d, e))),
-        0x61 => Record::Pair(both(a, b), both(d, e)),
-        _ => Record::None,
+        0x60 => Some(Record::Line(Instruction::Unknown(both(a, b), both(d, e)))),
+        0x61 => Some(Record::Pair(both(a, b), both(d, e))),
+        _ => None,
     }
 }

@@ -2,27 +2,35 @@
 ghost use Rattle.std.specs.Prelude.{◌≡◌};
 ghost use Rattle.sheet.specs.Turns.{turn_by};
 
-use crate::{End, Turn};
+use crate::End;
+use refusal::Refusal;
 
-// A turn by five tests: running, limit used up, 12, 13, a load wanted and no answer left.
+// How a turn ends the run, by five tests: running, limit used up, a faulty instruction, a counter at its top, a load
+// wanted and no answer left. None: it is one more tick.
 #[tactic(auto, unfolding(crate::specs::Turns::turn_by))]
-pub fn turn_by(running: bool, spent: bool, faulty: bool, full: bool, unanswered: bool) -> Turn
+pub fn turn_by(
+    running: bool,
+    spent: bool,
+    faulty: bool,
+    full: bool,
+    unanswered: bool,
+) -> Option<End>
     ensures { result ≡ turn_by running spent faulty full unanswered }
 {
     if !running {
-        return Turn::Ends(End::Halted);
+        return Some(End::Halted);
     }
     if spent {
-        return Turn::Ends(End::Spent);
+        return Some(End::Spent);
     }
     if faulty {
-        return Turn::Ends(End::Refused(12));
+        return Some(End::Refused(Refusal::Faulty));
     }
     if full {
-        return Turn::Ends(End::Refused(13));
+        return Some(End::Refused(Refusal::CounterFull));
     }
     if unanswered {
-        return Turn::Ends(End::Loads);
+        return Some(End::Loads);
     }
-    Turn::Ticks
+    None
 }

@@ -1,5 +1,6 @@
 -- The plan of a tick in which no wait goes on, by its two tests. Assumes nothing.
 use Prim.Native.Nat.{ℕ}
+use Rattle.std.specs.Prelude.{Option, None, Some}
 use mathlib.Core.Bool.{Bool, false, true}
 use mathlib.Core.List.{List}
 use mathlib.Core.Path.{◌∙◌, ◌≡◌, ap, refl, sym}
@@ -7,14 +8,14 @@ use Rattle.stages.specs.Execute.{redirect_of}
 use Rattle.stages.specs.Fetch.{fetch_from, fetch_place}
 use Rattle.stages.specs.Inner.{held_plan, moved_plan, uses_load}
 use Rattle.stages.specs.Move.{begins_wait, free_move, hazard, inquiry_in, is_wait, move_from, proceed_or}
-use Rattle.stages.specs.Names.{Front, Next, Redirect, Stages, To}
+use Rattle.stages.specs.Names.{Front, Place, Stages}
 use Rattle.stages.specs.Plans.{front_of, open_ex_mem, plan_of}
 
-moves_on : (u : Bool) (g : Redirect) → is_wait (move_from u g) ≡ false
+moves_on : (u : Bool) (g : Option Place) → is_wait (move_from u g) ≡ false
 unfolding is_wait move_from proceed_or
 moves_on true g = refl
-moves_on false Next = refl
-moves_on false (To p m) = refl
+moves_on false None = refl
+moves_on false (Some t) = refl
 
 -- f: IF/ID decoded; u: whether it uses the load in ID/EX
 module _ (l : Stages) (rs : List ℕ) (f : Front) (u : Bool) (ef : f ≡ front_of l.if_id)

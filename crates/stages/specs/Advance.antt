@@ -1,7 +1,6 @@
 -- The stages after a move.
-use Rattle.std.specs.Prelude.{◌-◌, ℕ, Bool, cond, List}
+use Rattle.std.specs.Prelude.{◌-◌, ℕ, Bool, cond, List, is_some}
 use Rattle.isa.specs.Effect.{fall}
-use Rattle.isa.specs.Redirects.{is_to}
 use Rattle.isa.specs.Waits.{waits}
 use Rattle.latch.specs.Latches.{cleared, empty_id_ex}
 use Rattle.latch.specs.Memory.{mem_wb_of}
@@ -18,15 +17,15 @@ place_after keep_waiting p l = l.fetch_at
 place_after begin_wait p l = l.fetch_at
 place_after (load_use_stall g) p l = place_or g l.fetch_at
 place_after proceed p l = record { pc = cond l.running (fall p.pc p.mode) p.pc; mode = p.mode }
-place_after (redirect q m) p l = record { pc = q; mode = m }
+place_after (redirect t) p l = t
 
 -- IF/ID: a redirect empties what is held or fetched
 unfoldable pub if_id_after : Move → Place → RawInstr → Stages → IfId
 if_id_after keep_waiting p i l = l.if_id
 if_id_after begin_wait p i l = l.if_id
-if_id_after (load_use_stall g) p i l = cond (is_to g) (cleared l.if_id) l.if_id
+if_id_after (load_use_stall g) p i l = cond (is_some g) (cleared l.if_id) l.if_id
 if_id_after proceed p i l = fetched l.running l.if_id p i
-if_id_after (redirect q m) p i l = cleared (fetched l.running l.if_id p i)
+if_id_after (redirect t) p i l = cleared (fetched l.running l.if_id p i)
 
 -- ID/EX
 unfoldable pub id_ex_after : Move → IdEx → Stages → IdEx
@@ -34,7 +33,7 @@ id_ex_after keep_waiting d l = l.id_ex
 id_ex_after begin_wait d l = l.id_ex
 id_ex_after (load_use_stall g) d l = empty_id_ex
 id_ex_after proceed d l = d
-id_ex_after (redirect q m) d l = empty_id_ex
+id_ex_after (redirect t) d l = empty_id_ex
 
 -- the wait in EX: a move that is none ends the one that was under way
 unfoldable pub wait_after : Move → Stages → ℕ
@@ -42,7 +41,7 @@ wait_after keep_waiting l = l.ex_cycles_left - 1
 wait_after begin_wait l = waits l.id_ex.decoded
 wait_after (load_use_stall g) l = cond l.ex_armed 0 l.ex_cycles_left
 wait_after proceed l = cond l.ex_armed 0 l.ex_cycles_left
-wait_after (redirect q m) l = cond l.ex_armed 0 l.ex_cycles_left
+wait_after (redirect t) l = cond l.ex_armed 0 l.ex_cycles_left
 
 -- e: the next EX/MEM; x: what the tick takes in
 unfoldable pub advance_by : Move → ExMem → IdEx → Place → Stages → Taken → Stages

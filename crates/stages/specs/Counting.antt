@@ -1,6 +1,5 @@
 -- The five counters, and what is counted in them.
-use Rattle.std.specs.Prelude.{◌+◌, ℕ, ◌==◌, Bool, ◌||◌, cond, false, true}
-use Rattle.isa.specs.Redirects.{is_to}
+use Rattle.std.specs.Prelude.{◌+◌, ℕ, ◌==◌, Bool, ◌||◌, cond, false, true, is_some}
 use Rattle.word.specs.Words.{bit}
 use Rattle.stages.specs.Names.{Counters, Move, begin_wait, keep_waiting, load_use_stall, proceed, redirect}
 
@@ -20,15 +19,15 @@ stalls keep_waiting = true
 stalls begin_wait = true
 stalls (load_use_stall g) = true
 stalls proceed = false
-stalls (redirect p m) = false
+stalls (redirect t) = false
 
 -- a move that empties the two younger latches
 unfoldable pub flushes : Move → Bool
 flushes keep_waiting = false
 flushes begin_wait = false
-flushes (load_use_stall g) = is_to g
+flushes (load_use_stall g) = is_some g
 flushes proceed = false
-flushes (redirect p m) = true
+flushes (redirect t) = true
 
 -- every move counts one tick and one running tick
 unfoldable pub counted : Move → Counters → Counters

@@ -1,5 +1,5 @@
 -- Definitions that only the contracts of inner functions cite. No claim and no public promise rests on them.
-use Rattle.std.specs.Prelude.{◌<◌, ℕ, Bool, ◌&&◌, false, List, ◌≡◌}
+use Rattle.std.specs.Prelude.{◌<◌, ℕ, Bool, ◌&&◌, false, List, ◌≡◌, None}
 use Rattle.latch.specs.Decode.{load_use}
 use Rattle.latch.specs.Latches.{empty_ex_mem}
 use Rattle.stages.specs.Advance.{advance_by}
@@ -7,7 +7,7 @@ use Rattle.stages.specs.Counting.{counter_full, is_full}
 use Rattle.stages.specs.Execute.{effect_for, executed_by, inquiry_of, redirect_of}
 use Rattle.stages.specs.Fetch.{fetch_from}
 use Rattle.stages.specs.Move.{move_from}
-use Rattle.stages.specs.Names.{Counters, Front, NoInquiry, Operands, Plan, Stages, Taken, begin_wait}
+use Rattle.stages.specs.Names.{Counters, Front, Operands, Plan, Stages, Taken, begin_wait}
 use Rattle.stages.specs.Plans.{id_ex_from}
 
 -- b tells whether n is full, and if not there is room for one more
@@ -39,7 +39,7 @@ uses_load l o = l.if_id.valid && load_use l.id_ex o.src_a o.src_b
 -- the plan where a multiply or divide begins its wait
 unfoldable pub held_plan : Stages → Front → Plan
 held_plan l f = record
-    { step = begin_wait; ex_mem = empty_ex_mem; inquiry = NoInquiry; front = f; place = l.fetch_at }
+    { step = begin_wait; ex_mem = empty_ex_mem; inquiry = None; front = f; place = l.fetch_at }
 
 -- the plan where ID/EX executes
 unfoldable pub moved_plan : Stages → List ℕ → Bool → Front → Plan

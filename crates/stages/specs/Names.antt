@@ -1,10 +1,6 @@
 -- The declared types and constructors that this crate names, each under the name that the declaring crate gives it.
 pub use Rattle.isa.specs.declared.RawInstr.{RawInstr}
-pub use Rattle.isa.specs.declared.Redirect.{Redirect}
-pub use Rattle.isa.specs.declared.Redirect.TheVariants.{Next, To}
-pub use Rattle.isa.specs.declared.Inquiry.{Inquiry}
-pub use Rattle.isa.specs.declared.Inquiry.TheVariants.{None as NoInquiry}
-pub use Rattle.isa.specs.declared.Special.{Special}
+pub use Rattle.isa.specs.declared.Place.{Place}
 pub use Rattle.isa.specs.declared.Operands.{Operands}
 pub use Rattle.isa.specs.declared.Effect.{Effect}
 pub use Rattle.latch.specs.declared.IfId.{IfId}
@@ -19,6 +15,5 @@ pub use Rattle.stages.specs.declared.Move.TheVariants.{LoadUseStall as load_use_
 pub use Rattle.stages.specs.declared.Move.TheVariants.{Redirect as redirect}
 pub use Rattle.stages.specs.declared.Stages.{Stages}
 pub use Rattle.stages.specs.declared.Counters.{Counters}
-pub use Rattle.stages.specs.declared.Place.{Place}
 pub use Rattle.stages.specs.declared.Front.{Front}
 pub use Rattle.stages.specs.declared.Plan.{Plan}

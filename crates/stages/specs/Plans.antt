@@ -1,8 +1,7 @@
 -- The plan of a tick in which no wait goes on, made once MEM/WB has retired, and the stages behind it.
-use Rattle.std.specs.Prelude.{ℕ, Bool, ◌&&◌, cond, List}
-use Rattle.isa.specs.Inquiries.{is_inquiry, mfsr_with}
+use Rattle.std.specs.Prelude.{ℕ, Bool, ◌&&◌, cond, List, Option, is_some}
+use Rattle.isa.specs.Inquiries.{mfsr_with}
 use Rattle.isa.specs.Operands.{operands_of}
-use Rattle.isa.specs.Redirects.{is_to}
 use Rattle.isa.specs.Short.{decoded_of}
 use Rattle.latch.specs.Decode.{id_ex_by}
 use Rattle.latch.specs.Execute.{ex_mem_of}
@@ -11,7 +10,7 @@ use Rattle.stages.specs.Advance.{advance_by}
 use Rattle.stages.specs.Execute.{effect_for, executed_by}
 use Rattle.stages.specs.Fetch.{fetch_place, fetches, predicted}
 use Rattle.stages.specs.Move.{free_move, inquiry_in, is_wait}
-use Rattle.stages.specs.Names.{ExMem, Front, IdEx, IfId, Inquiry, Move, Plan, Special, Stages, Taken, keep_waiting}
+use Rattle.stages.specs.Names.{ExMem, Front, IdEx, IfId, Move, Plan, Stages, Taken, keep_waiting}
 
 -- IF/ID decoded, with its operands and the prediction
 unfoldable pub front_of : IfId → Front
@@ -24,7 +23,7 @@ front_of f = record {
 -- the next ID/EX, by the front
 unfoldable pub id_ex_from : IfId → Front → List ℕ → IdEx
 id_ex_from l f rs =
-    cond l.valid (id_ex_by (is_to f.predicted) f.decoded f.operands l.pc l.mode rs) empty_id_ex
+    cond l.valid (id_ex_by (is_some f.predicted) f.decoded f.operands l.pc l.mode rs) empty_id_ex
 
 -- the next EX/MEM of a move, as far as it is known before something is said of the special register asked for
 unfoldable pub open_ex_mem : Move → Stages → List ℕ → ExMem
@@ -45,8 +44,8 @@ unfoldable pub plan_fetches : Stages → Plan → Bool
 plan_fetches l p = l.running && fetches p.step
 
 -- the next EX/MEM, so far x, with what is said (c) of the special register that the plan asks for (q); d: ID/EX
-unfoldable pub said_ex_mem : Inquiry → ExMem → IdEx → Special → ExMem
-said_ex_mem q x d c = cond (is_inquiry q) (ex_mem_of d (mfsr_with c)) x
+unfoldable pub said_ex_mem : Option ℕ → ExMem → IdEx → Option (Option ℕ) → ExMem
+said_ex_mem q x d c = cond (is_some q) (ex_mem_of d (mfsr_with c)) x
 
 -- the stages after the move of a plan
 unfoldable pub advance_plan : Plan → Stages → List ℕ → Taken → Stages

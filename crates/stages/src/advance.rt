@@ -1,6 +1,6 @@
 // The rest of a tick, by its plan.
-ghost use Rattle.std.specs.Prelude.{◌-◌, cond, ◌≡◌};
-ghost use Rattle.latch.specs.Latches.{cleared};
+ghost use Rattle.std.specs.Prelude.{cond, ◌≡◌};
+ghost use Rattle.isa.specs.Effect.{fall};
 ghost use Rattle.stages.specs.Advance.{advance_by};
 ghost use Rattle.stages.specs.Fetch.{fetched};
 ghost use Rattle.stages.specs.Inner.{move_on};
@@ -8,31 +8,10 @@ ghost use Rattle.stages.specs.Names.{begin_wait, keep_waiting, load_use_stall, p
 ghost use Rattle.stages.specs.Plans.{advance_plan, waited};
 
 use crate::execute::id_ex_from;
-use crate::{Move, Place, Plan, Stages, Taken};
-use isa::registers::sel;
-use isa::{Mode, RawInstr, Redirect};
+use crate::{Move, Plan, Stages, Taken};
+use isa::inquiries::mfsr_with;
+use isa::{Place, RawInstr};
 use latch::{ExMem, IdEx, IfId};
-
-// One less, and 0 for 0.
-fn one_less(n: u32) -> u32
-    ensures { result ≡ n - 1 }
-{
-    if 0 < n {
-        return n - 1;
-    }
-    0
-}
-
-// IF/ID behind a used load: emptied where the tick redirects.
-#[tactic(auto, unfolding(word::specs::Words::bit))]
-fn stalled(redirects: bool, f: IfId) -> IfId
-    ensures { result ≡ cond redirects (cleared f) f }
-{
-    if redirects {
-        return f.cleared();
-    }
-    f
-}
 
 impl Stages {
     // The next IF/ID; a machine that has halted fetches nothing.
@@ -41,29 +20,28 @@ impl Stages {
         ensures { result ≡ fetched self.running self.if_id place raw }
     {
         if self.running {
-            let mode = place.mode;
             return IfId {
                 valid: true,
                 pc: place.pc,
-                mode,
+                mode: place.mode,
                 raw,
             };
         }
-        let f = self.if_id;
-        f.cleared()
+        self.if_id.cleared()
     }
 
     // A wait in EX goes on.
     #[tactic(auto, unfolding(crate::specs::Advance::advance_by, crate::specs::Advance::id_ex_after, crate::specs::Advance::if_id_after, crate::specs::Move::is_wait, crate::specs::Advance::wait_after, crate::specs::Advance::place_after))]
-    fn keep_waiting(mut self, ex_mem: ExMem, taken: Taken) -> Stages
+    fn keep_waiting(self, ex_mem: ExMem, taken: Taken) -> Stages
         ensures { result ≡ advance_by keep_waiting ex_mem self.id_ex self.fetch_at self taken }
     {
-        let x = self.ex_mem;
-        self.mem_wb = x.mem_wb(taken.answer);
-        self.ex_mem = ex_mem;
-        self.ex_armed = true;
-        self.ex_cycles_left = one_less(self.ex_cycles_left);
-        self
+        Stages {
+            mem_wb: self.ex_mem.mem_wb(taken.answer),
+            ex_mem,
+            ex_armed: true,
+            ex_cycles_left: self.ex_cycles_left.saturating_sub(1),
+            ..self
+        }
     }
 
     // The stages after a wait that goes on: nothing leaves EX and nothing is fetched.
@@ -76,72 +54,78 @@ impl Stages {
 
     // A wait in EX begins.
     #[tactic(auto, unfolding(crate::specs::Advance::advance_by, crate::specs::Advance::id_ex_after, crate::specs::Advance::if_id_after, crate::specs::Move::is_wait, crate::specs::Advance::wait_after, crate::specs::Advance::place_after))]
-    fn begin_wait(mut self, ex_mem: ExMem, taken: Taken) -> Stages
+    fn begin_wait(self, ex_mem: ExMem, taken: Taken) -> Stages
         ensures { result ≡ advance_by begin_wait ex_mem self.id_ex self.fetch_at self taken }
     {
-        let x = self.ex_mem;
-        let d = self.id_ex;
-        let decoded = d.decoded;
-        self.mem_wb = x.mem_wb(taken.answer);
-        self.ex_mem = ex_mem;
-        self.ex_armed = true;
-        self.ex_cycles_left = decoded.waits();
-        self
+        Stages {
+            mem_wb: self.ex_mem.mem_wb(taken.answer),
+            ex_mem,
+            ex_armed: true,
+            ex_cycles_left: self.id_ex.decoded.waits(),
+            ..self
+        }
+    }
+
+    // The place after it; a machine that has halted stays.
+    #[tactic(auto, unfolding(isa::specs::Effect::after))]
+    fn moved_on(self, place: Place) -> Place
+        ensures { result ≡ record { pc = cond self.running (fall place.pc place.mode) place.pc; mode = place.mode } }
+    {
+        if self.running { place.after() } else { place }
     }
 
     // IF/ID is decoded and the place fetched from; a wait that was under way has ended.
     #[tactic(auto, unfolding(crate::specs::Advance::advance_by, crate::specs::Advance::id_ex_after, crate::specs::Advance::if_id_after, crate::specs::Move::is_wait, crate::specs::Advance::wait_after, crate::specs::Advance::place_after))]
-    fn proceed(mut self, ex_mem: ExMem, id_ex: IdEx, place: Place, taken: Taken) -> Stages
+    fn proceed(self, ex_mem: ExMem, id_ex: IdEx, place: Place, taken: Taken) -> Stages
         ensures { result ≡ advance_by proceed ex_mem id_ex place self taken }
     {
-        let x = self.ex_mem;
-        let mode = place.mode;
-        let raw = taken.raw;
-        let if_id = self.fetch(place, raw);
-        let fetch_at = Place {
-            pc: sel(self.running, mode.fall(place.pc), place.pc),
-            mode,
-        };
-        self.mem_wb = x.mem_wb(taken.answer);
-        self.fetch_at = fetch_at;
-        self.if_id = if_id;
-        self.id_ex = id_ex;
-        self.ex_mem = ex_mem;
-        self.ex_cycles_left = sel(self.ex_armed, 0, self.ex_cycles_left);
-        self.ex_armed = false;
-        self
+        Stages {
+            mem_wb: self.ex_mem.mem_wb(taken.answer),
+            fetch_at: self.moved_on(place),
+            if_id: self.fetch(place, taken.raw),
+            id_ex,
+            ex_mem,
+            ex_cycles_left: if self.ex_armed {
+                0
+            } else {
+                self.ex_cycles_left
+            },
+            ex_armed: false,
+            ..self
+        }
     }
 
     // The front end is held behind a used load; a redirect still takes effect.
-    #[tactic(auto, unfolding(crate::specs::Advance::advance_by, crate::specs::Advance::id_ex_after, crate::specs::Advance::if_id_after, crate::specs::Move::is_wait, crate::specs::Advance::wait_after, crate::specs::Advance::place_after, crate::specs::Fetch::place_or))]
-    fn load_use_stall(self, way: Redirect, ex_mem: ExMem, taken: Taken) -> Stages
+    #[tactic(auto, unfolding(crate::specs::Advance::advance_by, crate::specs::Advance::id_ex_after, crate::specs::Advance::if_id_after, crate::specs::Move::is_wait, crate::specs::Advance::wait_after, crate::specs::Advance::place_after, crate::specs::Fetch::place_or, isa::specs::Redirects::target_or, isa::specs::Redirects::mode_or))]
+    fn load_use_stall(self, way: Option<Place>, ex_mem: ExMem, taken: Taken) -> Stages
         ensures { result ≡ advance_by (load_use_stall way) ex_mem self.id_ex self.fetch_at self taken }
     {
-        let at = self.fetch_at;
-        let mode = at.mode;
-        let fetch_at = Place {
-            pc: way.target_or(at.pc),
-            mode: way.mode_or(mode),
-        };
-        let if_id = stalled(way.is_to(), self.if_id);
-        let mut next = self.proceed(ex_mem, IdEx::invalid(), at, taken);
-        next.fetch_at = fetch_at;
-        next.if_id = if_id;
-        next
+        let next = self.proceed(ex_mem, IdEx::invalid(), self.fetch_at, taken);
+        match way {
+            Some(target) => Stages {
+                fetch_at: target,
+                if_id: self.if_id.cleared(),
+                ..next
+            },
+            None => Stages {
+                fetch_at: self.fetch_at,
+                if_id: self.if_id,
+                ..next
+            },
+        }
     }
 
     // What was decoded and what is fetched are both flushed.
     #[tactic(auto, unfolding(crate::specs::Advance::advance_by, crate::specs::Advance::id_ex_after, crate::specs::Advance::if_id_after, crate::specs::Move::is_wait, crate::specs::Advance::wait_after, crate::specs::Advance::place_after))]
-    fn redirect(self, pc: u32, mode: Mode, ex_mem: ExMem, place: Place, taken: Taken) -> Stages
-        ensures { result ≡ advance_by (redirect pc mode) ex_mem self.id_ex place self taken }
+    fn redirect(self, target: Place, ex_mem: ExMem, place: Place, taken: Taken) -> Stages
+        ensures { result ≡ advance_by (redirect target) ex_mem self.id_ex place self taken }
     {
-        let mut next = self.proceed(ex_mem, IdEx::invalid(), place, taken);
-        let target = Place { pc, mode };
-        let f = next.if_id;
-        let if_id = f.cleared();
-        next.fetch_at = target;
-        next.if_id = if_id;
-        next
+        let next = self.proceed(ex_mem, IdEx::invalid(), place, taken);
+        Stages {
+            fetch_at: target,
+            if_id: next.if_id.cleared(),
+            ..next
+        }
     }
 
     // The stages after the move of a plan, with the next EX/MEM so far.
@@ -149,8 +133,7 @@ impl Stages {
     fn move_on(self, plan: Plan, taken: Taken, reg: &[u32; 32]) -> Stages
         ensures { result ≡ move_on plan self reg.now taken }
     {
-        let step = plan.step;
-        match step {
+        match plan.step {
             Move::KeepWaiting => self.keep_waiting(plan.ex_mem, taken),
             Move::BeginWait => self.begin_wait(plan.ex_mem, taken),
             Move::LoadUseStall(way) => self.load_use_stall(way, plan.ex_mem, taken),
@@ -158,7 +141,7 @@ impl Stages {
                 let id_ex = id_ex_from(self.if_id, plan.front, reg);
                 self.proceed(plan.ex_mem, id_ex, plan.place, taken)
             }
-            Move::Redirect(pc, mode) => self.redirect(pc, mode, plan.ex_mem, plan.place, taken),
+            Move::Redirect(target) => self.redirect(target, plan.ex_mem, plan.place, taken),
         }
     }
 
@@ -167,12 +150,12 @@ impl Stages {
     pub fn advance(self, plan: Plan, taken: Taken, reg: &[u32; 32]) -> Stages
         ensures { result ≡ advance_plan plan self reg.now taken }
     {
-        let d = self.id_ex;
-        let inquiry = plan.inquiry;
-        let mut next = self.move_on(plan, taken, reg);
-        if inquiry.is_some() {
-            let special = taken.special;
-            next.ex_mem = d.ex_mem(special.effect());
+        let next = self.move_on(plan, taken, reg);
+        if plan.inquiry.is_some() {
+            return Stages {
+                ex_mem: self.id_ex.ex_mem(mfsr_with(taken.special)),
+                ..next
+            };
         }
         next
     }

@@ -1,6 +1,5 @@
 // The counters.
-ghost use Rattle.std.specs.Prelude.{◌≡◌, ◌+◌, ◌<◌};
-ghost use Rattle.word.specs.Words.{bit};
+ghost use Rattle.std.specs.Prelude.{◌≡◌};
 ghost use Rattle.stages.specs.Counting.{count_idle, count_retired, counted, counter_full, flushes, stalls};
 ghost use Rattle.stages.specs.Counting.{unless_full};
 ghost use Rattle.stages.specs.Inner.{Tells, TellsAll};
@@ -12,19 +11,7 @@ use crate::{Counters, Move};
 fn at_top(n: u64) -> bool
     ensures { Tells n result }
 {
-    n == 18446744073709551615
-}
-
-// One more, where `on` holds.
-#[tactic(auto, unfolding(word::specs::Words::bit))]
-fn more(on: bool, n: u64) -> u64
-    requires { n < 18446744073709551615 }
-    ensures { result ≡ n + bit on }
-{
-    if on {
-        return n + 1;
-    }
-    n
+    n == u64::MAX
 }
 
 impl Move {
@@ -34,11 +21,8 @@ impl Move {
         ensures { result ≡ stalls self }
     {
         match self {
-            Move::KeepWaiting => true,
-            Move::BeginWait => true,
-            Move::LoadUseStall(_) => true,
-            Move::Proceed => false,
-            Move::Redirect(_, _) => false,
+            Move::KeepWaiting | Move::BeginWait | Move::LoadUseStall(_) => true,
+            Move::Proceed | Move::Redirect(_) => false,
         }
     }
 
@@ -48,11 +32,9 @@ impl Move {
         ensures { result ≡ flushes self }
     {
         match self {
-            Move::KeepWaiting => false,
-            Move::BeginWait => false,
-            Move::LoadUseStall(way) => way.is_to(),
-            Move::Proceed => false,
-            Move::Redirect(_, _) => true,
+            Move::LoadUseStall(way) => way.is_some(),
+            Move::Redirect(_) => true,
+            Move::KeepWaiting | Move::BeginWait | Move::Proceed => false,
         }
     }
 }
@@ -82,35 +64,35 @@ impl Counters {
         if self.full() {
             return self;
         }
-        self.cycles = self.cycles + 1;
+        self.cycles += 1;
         self
     }
 
     // MEM/WB has retired.
-    #[tactic(auto, unfolding(crate::specs::Counting::unless_full, crate::specs::Counting::count_retired))]
+    #[tactic(auto, unfolding(crate::specs::Counting::unless_full, crate::specs::Counting::count_retired, word::specs::Words::bit))]
     pub fn retire(mut self, valid: bool) -> Counters
         ensures { result ≡ unless_full self (count_retired valid self) }
     {
         if self.full() {
             return self;
         }
-        self.instructions_executed = more(valid, self.instructions_executed);
+        self.instructions_executed += u64::from(valid);
         self
     }
 
     // A tick that moves.
-    #[tactic(auto, unfolding(crate::specs::Counting::unless_full, crate::specs::Counting::counted, crate::specs::Counting::count_retired))]
+    #[tactic(auto, unfolding(crate::specs::Counting::unless_full, crate::specs::Counting::counted, crate::specs::Counting::count_retired, word::specs::Words::bit))]
     pub fn count(mut self, valid: bool, step: Move) -> Counters
         ensures { result ≡ unless_full self (counted step (count_retired valid self)) }
     {
         if self.full() {
             return self;
         }
-        self.cycles = self.cycles + 1;
-        self.running_cycles = self.running_cycles + 1;
-        self.instructions_executed = more(valid, self.instructions_executed);
-        self.stall_cycles = more(step.stalls(), self.stall_cycles);
-        self.flush_events = more(step.flushes(), self.flush_events);
+        self.cycles += 1;
+        self.running_cycles += 1;
+        self.instructions_executed += u64::from(valid);
+        self.stall_cycles += u64::from(step.stalls());
+        self.flush_events += u64::from(step.flushes());
         self
     }
 }

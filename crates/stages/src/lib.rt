@@ -29,10 +29,11 @@ mod refusals;
 mod retire;
 mod wants;
 
-use isa::{Decoded, Inquiry, Mode, Operands, RawInstr, Redirect, Special};
+use isa::{Decoded, Operands, Place, RawInstr};
 use latch::{ExMem, IdEx, IfId, MemWb};
 
-// Fetch and retire place, latches, and the wait in EX.
+// Fetch and retire place, latches, and the wait in EX. `ex_cycles_left` stands beside `ex_armed` as in the Rust: a caller
+// may hand in any number of ticks with a wait that is not armed, and it is kept (RULES 19.2).
 #[derive(Clone, Copy)]
 pub struct Stages {
     pub fetch_at: Place,
@@ -58,12 +59,14 @@ pub struct Counters {
     pub flush_events: u64,
 }
 
-// What a tick takes in: the load's answer, the instruction offered, and what is said of a special register.
+// What a tick takes in: the load's answer, the instruction offered, and what is said of a special register, if
+// anything: that there is none, or its word. What a tick does not ask for is a 0 or a NOP here and is not looked at; with
+// options the runner's loop would test again what it has just asked.
 #[derive(Clone, Copy)]
 pub struct Taken {
     pub answer: u32,
     pub raw: RawInstr,
-    pub special: Special,
+    pub special: Option<Option<u32>>,
 }
 
 // What the rest of a tick does once MEM/WB has retired: continue or begin a wait in EX, hold the front
@@ -72,16 +75,9 @@ pub struct Taken {
 pub enum Move {
     KeepWaiting,
     BeginWait,
-    LoadUseStall(Redirect),
+    LoadUseStall(Option<Place>),
     Proceed,
-    Redirect(u32, Mode),
-}
-
-// An address and its mode.
-#[derive(Clone, Copy)]
-pub struct Place {
-    pub pc: u32,
-    pub mode: Mode,
+    Redirect(Place),
 }
 
 // What IF/ID holds, decoded, with its operands and the prediction.
@@ -89,7 +85,7 @@ pub struct Place {
 pub struct Front {
     pub decoded: Decoded,
     pub operands: Operands,
-    pub predicted: Redirect,
+    pub predicted: Option<Place>,
 }
 
 // What a tick plans once MEM/WB has retired: its move, the next EX/MEM, which stands only where no special register is
@@ -98,7 +94,7 @@ pub struct Front {
 pub struct Plan {
     pub step: Move,
     pub ex_mem: ExMem,
-    pub inquiry: Inquiry,
+    pub inquiry: Option<u16>,
     pub front: Front,
     pub place: Place,
 }

@@ -8,7 +8,7 @@ use crate::execute::{
     executed_by, front_of, inquiry_by, is_slow, move_from, place_from, redirect_by,
 };
 use crate::{Front, Move, Plan, Stages};
-use isa::{Inquiry, Operands};
+use isa::Operands;
 use latch::ExMem;
 use latch::execute::effect_from;
 
@@ -26,9 +26,7 @@ impl Stages {
     fn uses_load(self, o: Operands) -> bool
         ensures { result ≡ uses_load self o }
     {
-        let f = self.if_id;
-        let d = self.id_ex;
-        f.valid & d.load_is_used(o.src_a, o.src_b)
+        self.if_id.valid & self.id_ex.load_is_used(o.src_a, o.src_b)
     }
 
     // A multiply or divide begins its wait.
@@ -36,8 +34,7 @@ impl Stages {
     fn begins_wait(self, used: bool) -> bool
         ensures { result ≡ begins_wait self used }
     {
-        let d = self.id_ex;
-        !self.ex_armed & (!used & is_slow(d))
+        !self.ex_armed & !used & is_slow(self.id_ex)
     }
 
     // A wait begins: nothing leaves EX and nothing is fetched.
@@ -45,13 +42,12 @@ impl Stages {
     fn held_plan(self, front: Front) -> Plan
         ensures { result ≡ held_plan self front }
     {
-        let place = self.fetch_at;
         Plan {
             step: Move::BeginWait,
             ex_mem: ExMem::invalid(),
-            inquiry: Inquiry::None,
+            inquiry: None,
             front,
-            place,
+            place: self.fetch_at,
         }
     }
 
@@ -60,21 +56,15 @@ impl Stages {
     fn moved_plan(self, used: bool, front: Front, reg: &[u32; 32]) -> Plan
         ensures { result ≡ moved_plan self reg.now used front }
     {
-        let x = self.ex_mem;
-        let w = self.mem_wb;
         let d = self.id_ex;
-        let at = self.fetch_at;
-        let predicted = front.predicted;
-        let e = effect_from(self.user, x, w, self.features, reg, d);
+        let e = effect_from(self.user, self.ex_mem, self.mem_wb, self.features, reg, d);
         let step = move_from(used, redirect_by(d, e));
-        let ex_mem = executed_by(d, e);
-        let inquiry = inquiry_by(d, e);
         Plan {
             step,
-            ex_mem,
-            inquiry,
+            ex_mem: executed_by(d, e),
+            inquiry: inquiry_by(d, e),
             front,
-            place: place_from(step, predicted, at),
+            place: place_from(step, front.predicted, self.fetch_at),
         }
     }
 

@@ -11,12 +11,11 @@ impl Stages {
     pub fn out_of_bounds(self) -> bool
         ensures { result ≡ out_of_bounds self }
     {
-        let f = self.if_id;
-        let d = self.id_ex;
-        let x = self.ex_mem;
-        let m = self.mem_wb;
-        let late = x.out_of_bounds() | (m.out_of_bounds() | (15 < self.ex_cycles_left));
-        f.out_of_bounds() | (d.out_of_bounds() | late)
+        self.if_id.out_of_bounds()
+            | self.id_ex.out_of_bounds()
+            | self.ex_mem.out_of_bounds()
+            | self.mem_wb.out_of_bounds()
+            | (15 < self.ex_cycles_left)
     }
 
     // Whether a tick moves anything.
@@ -32,7 +31,6 @@ impl Stages {
     pub fn is_faulty(self) -> bool
         ensures { result ≡ faulty self }
     {
-        let m = self.mem_wb;
-        self.is_awake() & m.is_faulty()
+        self.is_awake() & self.mem_wb.is_faulty()
     }
 }

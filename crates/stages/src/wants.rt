@@ -22,8 +22,7 @@ impl Stages {
     pub fn fetches(self, plan: Plan) -> bool
         ensures { result ≡ plan_fetches self plan }
     {
-        let step = plan.step;
-        self.running & step.fetches()
+        self.running & plan.step.fetches()
     }
 
     // Whether EX/MEM asks for a load.
@@ -31,15 +30,13 @@ impl Stages {
     pub fn loads(self) -> bool
         ensures { result ≡ loads_in self }
     {
-        let x = self.ex_mem;
-        x.valid & x.loads()
+        self.ex_mem.valid & self.ex_mem.loads()
     }
 
     // Whether a tick will load: a HALT in MEM/WB empties EX/MEM first.
     pub fn wants_load(self) -> bool
         ensures { result ≡ want_load self }
     {
-        let m = self.mem_wb;
-        self.is_awake() & (!m.halts() & self.loads())
+        self.is_awake() & !self.mem_wb.halts() & self.loads()
     }
 }

@@ -16,27 +16,19 @@ fn outcome(sheet: &[u8]) -> Ran
     ensures { result ≡ outcome sheet.now }
 {
     let start = PipelineCpu::start(Start::zero());
-    let zero = [0u32; 1];
-    let none = &zero[..0];
-    runner::run(start, sheet, none, none, 1000000)
-}
-
-// Writes the first bytes of a buffer.
-fn print<W: Write>(to: &mut W, out: &[u8], n: usize) -> Result<()> {
-    if n <= out.len() {
-        to.write_all(&out[..n])?;
-    }
-    Ok(())
+    runner::run(start, sheet, &[], &[], 1_000_000)
 }
 
 // Runs what standard input holds, writes the report of that run, and of a refused one which record it was and why.
+#[tactic(auto, unfolding(report::specs::Written::written_count))]
 fn play(rt: &HostRuntime, buf: &mut [u8], out: &mut [u8]) -> Result<()> {
     let n = read_full(&mut rt.stdin(), buf)?;
-    let ran = outcome(&buf[..n]);
+    let sheet = &buf[..n];
+    let ran = outcome(sheet);
     let k = report::write(ran, out);
-    print(&mut rt.stdout(), out, k)?;
-    let e = report::explain(ran, &buf[..n], out);
-    print(&mut rt.stderr(), out, e)
+    rt.stdout().write_all(&out[..k])?;
+    let k = report::explain(ran, sheet, out);
+    rt.stderr().write_all(&out[..k])
 }
 
 fn main(rt: HostRuntime) -> Result<()> {

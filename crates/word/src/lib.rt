@@ -13,43 +13,21 @@
 // - ldil, ldih: the two halves exchanged; the other half cleared.
 // - of_signed, add_signed: the offset zero-extended; the offset in words of 4 bytes.
 // - cut: one width less; the high bytes kept.
-// - arithmetic, src32_alu: SLA as SRA; 0 as the refusal of a command that does not exist.
+// - arithmetic: SLA as SRA; Some(0) for a command that does not exist.
 #![tactic(auto)]
 
-ghost use Rattle.std.specs.Prelude.{◌≡◌, ◌^◌, ◌<◌};
-ghost use Rattle.std.specs.Int.Signed.{mag};
-ghost use Rattle.word.specs.Command.{arithmetic32, command32};
+ghost use Rattle.std.specs.Prelude.{◌≡◌};
+ghost use Rattle.word.specs.Command.{command_of};
 ghost use Rattle.word.specs.Words.{add32, and32, cut32, div32, divu32, ldih32, ldil32, mod32, mul32, mulh32};
-ghost use Rattle.word.specs.Words.{offset32, or32, signed, sll32, slt32, sltu32, sra32, srl32, sub32, word_of};
+ghost use Rattle.word.specs.Words.{offset32, or32, sll32, slt32, sltu32, sra32, srl32, sub32, word_of};
 ghost use Rattle.word.specs.Words.{xor32};
-
-// A word as a signed number.
-fn sext(x: u32) -> i64
-    ensures { result ≡ signed x }
-{
-    if x < 0x8000_0000 {
-        return x as i64;
-    }
-    (x as i64) - 4294967296
-}
-
-// The word of a signed number.
-fn low(z: i64) -> u32
-    requires { mag z < 2 ^ 32 }
-    ensures { result ≡ word_of z }
-{
-    if z < 0 {
-        return (z + 4294967296) as u32;
-    }
-    z as u32
-}
 
 // The sum, which wraps.
 #[tactic(auto, unfolding(crate::specs::Words::add32))]
 pub fn add(a: u32, b: u32) -> u32
     ensures { result ≡ add32 a b }
 {
-    std::num::wrapping_add_u32(a, b)
+    a.wrapping_add(b)
 }
 
 // The difference, which wraps.
@@ -57,14 +35,14 @@ pub fn add(a: u32, b: u32) -> u32
 pub fn sub(a: u32, b: u32) -> u32
     ensures { result ≡ sub32 a b }
 {
-    std::num::wrapping_sub_u32(a, b)
+    a.wrapping_sub(b)
 }
 
 // The word of a signed offset or immediate.
 pub fn of_signed(offset: i16) -> u32
     ensures { result ≡ word_of offset }
 {
-    low(offset as i64)
+    i32::from(offset).cast_unsigned()
 }
 
 // A base or address and a signed offset in bytes.
@@ -72,7 +50,7 @@ pub fn of_signed(offset: i16) -> u32
 pub fn add_signed(base: u32, offset: i16) -> u32
     ensures { result ≡ offset32 base offset }
 {
-    std::num::wrapping_add_u32(base, of_signed(offset))
+    base.wrapping_add_signed(i32::from(offset))
 }
 
 #[tactic(auto, unfolding(crate::specs::Words::and32))]
@@ -101,45 +79,35 @@ pub fn xor(a: u32, b: u32) -> u32
 pub fn sll(a: u32, b: u32) -> u32
     ensures { result ≡ sll32 a b }
 {
-    a << (b % 32)
+    a.wrapping_shl(b)
 }
 
 #[tactic(auto, unfolding(crate::specs::Words::srl32))]
 pub fn srl(a: u32, b: u32) -> u32
     ensures { result ≡ srl32 a b }
 {
-    a >> (b % 32)
+    a.wrapping_shr(b)
 }
 
 #[tactic(auto, unfolding(crate::specs::Words::sra32))]
 pub fn sra(a: u32, b: u32) -> u32
     ensures { result ≡ sra32 a b }
 {
-    let n = b % 32;
-    let x = sext(a);
-    low(x >> n)
+    a.cast_signed().wrapping_shr(b).cast_unsigned()
 }
 
 #[tactic(auto, unfolding(crate::specs::Words::slt32, crate::specs::Words::bit))]
 pub fn slt(a: u32, b: u32) -> u32
     ensures { result ≡ slt32 a b }
 {
-    let x = sext(a);
-    let y = sext(b);
-    if x < y {
-        return 1;
-    }
-    0
+    u32::from(a.cast_signed() < b.cast_signed())
 }
 
 #[tactic(auto, unfolding(crate::specs::Words::sltu32, crate::specs::Words::bit))]
 pub fn sltu(a: u32, b: u32) -> u32
     ensures { result ≡ sltu32 a b }
 {
-    if a < b {
-        return 1;
-    }
-    0
+    u32::from(a < b)
 }
 
 // The low word of the product.
@@ -147,21 +115,19 @@ pub fn sltu(a: u32, b: u32) -> u32
 pub fn mul(a: u32, b: u32) -> u32
     ensures { result ≡ mul32 a b }
 {
-    let p = (a as u64) * (b as u64);
-    (p % 4294967296) as u32
+    a.wrapping_mul(b)
 }
 
 // The high word of the signed product.
-#[tactic(auto, unfolding(crate::specs::Words::mulh32))]
 pub fn mulh(a: u32, b: u32) -> u32
     ensures { result ≡ mulh32 a b }
 {
-    let x = sext(a);
-    let y = sext(b);
-    low((x * y) >> 32)
+    let product = i64::from(a.cast_signed()) * i64::from(b.cast_signed());
+    ((product >> 32) as i32).cast_unsigned()
 }
 
-// The signed quotient, cut toward zero; 0 for a zero divisor.
+// The signed quotient, cut toward zero; 0 for a zero divisor. The library's checked_div has none for the least number by
+// -1 either, so the divisor is tested here.
 #[tactic(auto, unfolding(crate::specs::Words::div32))]
 pub fn div(a: u32, b: u32) -> u32
     ensures { result ≡ div32 a b }
@@ -169,9 +135,8 @@ pub fn div(a: u32, b: u32) -> u32
     if b == 0 {
         return 0;
     }
-    let x = sext(a);
-    let y = sext(b);
-    low(x / y)
+    let quotient = a.cast_signed().wrapping_div(b.cast_signed());
+    quotient.cast_unsigned()
 }
 
 // The unsigned quotient; 0 for a zero divisor.
@@ -179,13 +144,10 @@ pub fn div(a: u32, b: u32) -> u32
 pub fn divu(a: u32, b: u32) -> u32
     ensures { result ≡ divu32 a b }
 {
-    if b == 0 {
-        return 0;
-    }
-    a / b
+    a.checked_div(b).unwrap_or(0)
 }
 
-// The remainder of the signed division, MOD; 0 for a zero divisor.
+// The remainder of the signed division, MOD; 0 for a zero divisor. The divisor is tested as in div.
 #[tactic(auto, unfolding(crate::specs::Words::mod32))]
 pub fn rem(a: u32, b: u32) -> u32
     ensures { result ≡ mod32 a b }
@@ -193,59 +155,51 @@ pub fn rem(a: u32, b: u32) -> u32
     if b == 0 {
         return 0;
     }
-    let x = sext(a);
-    let y = sext(b);
-    low(x % y)
+    let rest = a.cast_signed().wrapping_rem(b.cast_signed());
+    rest.cast_unsigned()
 }
 
 // LDIL: the low half replaced by the low half of `i`.
-#[tactic(auto, unfolding(crate::specs::Words::ldil32))]
+#[tactic(auto, using(crate::proofs::Halves::low_replaced), unfolding(crate::specs::Words::ldil32))]
 pub fn ldil(a: u32, i: u32) -> u32
     ensures { result ≡ ldil32 a i }
 {
-    a / 65536 * 65536 + i % 65536
+    (a & 0xFFFF_0000) | (i & 0xFFFF)
 }
 
 // LDIH: the high half replaced by the low half of `i`.
-#[tactic(auto, unfolding(crate::specs::Words::ldih32))]
+#[tactic(auto, using(crate::proofs::Halves::high_replaced), unfolding(crate::specs::Words::ldih32))]
 pub fn ldih(a: u32, i: u32) -> u32
     ensures { result ≡ ldih32 a i }
 {
-    i % 65536 * 65536 + a % 65536
+    (i << 16) | (a & 0xFFFF)
 }
 
 // A word cut to a width in bytes.
-#[tactic(auto, unfolding(crate::specs::Words::cut32))]
+#[tactic(auto, using(crate::proofs::Width::whole), unfolding(crate::specs::Words::cut32))]
 pub fn cut(width: u8, v: u32) -> u32
     ensures { result ≡ cut32 width v }
 {
-    if width < 4 {
-        let bits = 8 * (width as u32);
-        return v % (1 << bits);
+    match 1u32.checked_shl(8 * u32::from(width)) {
+        Some(limit) => v % limit,
+        None => v,
     }
-    v
 }
 
-fn wide(x: u32) -> u64
-    ensures { result ≡ x }
+// The arithmetic of the commands 10 to 1F of the step sheet; None for any other. The command is a number, as C hands it
+// over, and any number may come.
+#[tactic(auto, unfolding(crate::specs::Command::command_of, crate::specs::Command::arithmetic32))]
+pub fn arithmetic(command: u32, a: u32, b: u32) -> Option<u32>
+    ensures { result ≡ command_of command a b }
 {
-    x as u64
-}
-
-// The arithmetic of the commands 10 to 1F of the step sheet; 0 for any other.
-#[tactic(auto, unfolding(crate::specs::Command::arithmetic32))]
-pub fn arithmetic(command: u32, a: u32, b: u32) -> u32
-    ensures { result ≡ arithmetic32 command a b }
-{
-    match command {
+    let word = match command {
         0x10 => add(a, b),
         0x11 => sub(a, b),
         0x12 => and(a, b),
         0x13 => or(a, b),
         0x14 => xor(a, b),
-        0x15 => sll(a, b),
+        0x15 | 0x17 => sll(a, b),
         0x16 => srl(a, b),
-        0x17 => sll(a, b),
         0x18 => sra(a, b),
         0x19 => slt(a, b),
         0x1A => sltu(a, b),
@@ -254,17 +208,7 @@ pub fn arithmetic(command: u32, a: u32, b: u32) -> u32
         0x1D => div(a, b),
         0x1E => divu(a, b),
         0x1F => rem(a, b),
-        _ => 0,
-    }
-}
-
-// The same, with refusal 5 for any other command: the arithmetic that word_c exports to C.
-#[tactic(auto, unfolding(crate::specs::Command::command32))]
-pub fn src32_alu(command: u32, a: u32, b: u32) -> u64
-    ensures { result ≡ command32 command a b }
-{
-    match command {
-        0x10..=0x1F => wide(arithmetic(command, a, b)),
-        _ => 4294967301,
-    }
+        _ => return None,
+    };
+    Some(word)
 }

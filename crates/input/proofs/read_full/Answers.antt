@@ -1,9 +1,7 @@
 -- What a read gives stands behind what was read before it.
-use Rattle.std.proofs.Common.{◌≡◌, ℕ, ◌+◌, ◌-◌, ◌≤◌, List, ◌++◌, length, take, rules, sym, ap, ◌∙◌, subst}
-use Rattle.std.proofs.Common.{length-take-le}
+use Rattle.std.proofs.Common.{◌≡◌, ℕ, ◌+◌, ◌≤◌, List, ◌++◌, length, take, rules, sym, ap, ◌∙◌, length-take-le}
 use Rattle.std.proofs.KnownBytes.{Consumes-trans}
 use Rattle.std.proofs.Math.Seq.{take-append-add, take-append-le}
-use Rattle.std.specs.Io.KnownBytes.{Consumes}
 use borrow.Rule.Slice.PartMut.{put_mid, post_of}
 use Rattle.input.proofs.read_full.Goals as goal
 
@@ -18,10 +16,8 @@ read_behind a n k xs ys within fits =
 
 pub loop-done-preserved : goal.loop-done-preserved
 loop-done-preserved g c =
-    let l = c.loop-done in
-    let room = length l.buf - l.done in (
+    let l = c.loop-done in (
       search rules,
-      subst (Consumes _ _)
-          (sym (read_behind l.done c.in_ok-n.n room l.buf c.read.new.buf l.invariant.0 c.in_ok-n.ensures.bound.0))
+      rw (read_behind l.done c.in_ok-n.n _ l.buf c.read.new.buf l.invariant.0 c.in_ok-n.ensures.bound.0)
           (Consumes-trans _ _ _ _ _ l.invariant.1 c.in_ok-n.ensures.bytes.0),
     )

@@ -1,65 +1,33 @@
--- A turn puts the slot at hand in its place, ends the play, or does one instruction.
-use Rattle.std.proofs.Common.{◌∙◌, length-set, refl}
+-- A turn ends the play or does one instruction.
+use Rattle.std.proofs.Common.{◌∙◌, sym, arith, refl, sym}
+use Rattle.std.proofs.lemmas.List.Elements.{All-replicate}
 use Rattle.isa.specs.Machine.{arch_with}
+use Rattle.player.proofs.Kept.{own}
 use Rattle.player.proofs.Loop.{begins, goes, halted_is, spent_is, stops_is}
-use Rattle.player.proofs.Table.{done_less, found, kept_same, kept_set, put_less, slot_own}
+use Rattle.player.specs.Inner.{IsOwn}
 use Rattle.player.proofs.turns.Goals as goal
 
 pub loop-done-init : goal.loop-done-init
 unfolding arch_with
 loop-done-init c =
-    begins _ _ _ _ _ _ refl (kept_same _ _ (slot_own _ _ _ _ c.at-slots.ensures) 512) _ refl
+    begins _ _ _ _ _ _ _ refl (All-replicate (IsOwn _) 512 _ (own _ _ _ _ c.at-slots.ensures))
 
--- The slot at hand is that of another address or mode, so the right one is put in its place, and less is left to do.
-pub loop-done-smaller-then-not-is_at : goal.loop-done-smaller-then-not-is_at
-loop-done-smaller-then-not-is_at c =
-    let i = c.loop-done in
-    put_less _ i.slots _ _ c.place_of-k.result _ _ i.pc i.mode c.at.result i.invariant.size c.place_of-k.ensures
-    c.is_at.result c.is_at.ensures c.if-not-is_at.true c.at.ensures
+pub returns-in-Some : goal.returns-in-Some
+returns-in-Some c =
+    c.new.ensures ∙ rw c.values_at.ensures (stops_is c.loop-done.invariant c.loop-done-test.true c.slot_in-s.ensures.slot
+    c.effect-e.ensures (sym c.in-Some.ensures))
 
-pub loop-done-preserved-then-not-is_at : goal.loop-done-preserved-then-not-is_at
-loop-done-preserved-then-not-is_at c =
-    let i = c.loop-done in
-    let h = i.invariant in
-    record {
-      asked = h.asked;
-      within = h.within;
-      few = h.few;
-      size = length-set i.slots c.place_of-k.result c.at.result ∙ h.size;
-      kept = kept_set _ i.slots c.place_of-k.result c.at.result h.kept (slot_own _ _ _ _ c.at.ensures);
-      same = h.same;
-    }
-
--- The play ends. `found` says that the slot at hand is that of the address and mode.
-pub returns-then-barred-o : goal.returns-then-barred-o
-returns-then-barred-o c =
-    let h = c.loop-done.invariant in
-    c.report.ensures ∙ rw c.stop_of.ensures (stops_is _ _ _ _ _ _ _ _ _ _ _ h c.loop-done-test.true _
-    (found _ _ _ _ _ _ h.size h.kept c.place_of-k.ensures _ c.is_at.ensures c.if-not-is_at.false) _
-    c.effect-e.ensures _ c.is_barred-barred.ensures c.if-barred-o.true)
-
-pub returns-then-m : goal.returns-then-m
-returns-then-m c =
-    let h = c.loop-done.invariant in
-    c.report-then-m.ensures ∙ halted_is _ _ _ _ _ _ _ _ _ _ _ h c.loop-done-test.true _
-    (found _ _ _ _ _ _ h.size h.kept c.place_of-k.ensures _ c.is_at.ensures c.if-not-is_at.false) _
-    c.effect-e.ensures _ c.is_barred-barred.ensures c.if-barred-o.false
-    _ c.value_of-value.ensures _ c.write.ensures _ c.used_after-used.ensures
-    _ (c.target_or-pc.ensures ∙ rw c.fall.ensures) _ c.mode_or-mode.ensures c.if-m.true
-
--- An instruction is done, and the play goes on.
-pub loop-done-smaller : goal.loop-done-smaller
-loop-done-smaller c = done_less _ _ _ _ c.loop-done-test.true
+pub returns-then-e : goal.returns-then-e
+returns-then-e c =
+    c.new-then-e.ensures ∙ rw c.values_at-values.ensures (halted_is c.loop-done.invariant c.loop-done-test.true
+    c.slot_in-s.ensures.slot c.effect-e.ensures (sym c.in_default.ensures) c.value_of-value.ensures c.write.ensures
+    c.next-at.ensures c.used_after-used.ensures c.if-e.true)
 
 pub loop-done-preserved : goal.loop-done-preserved
 loop-done-preserved c =
-    let h = c.loop-done.invariant in
-    goes _ _ _ _ _ _ _ _ _ _ _ h c.loop-done-test.true _
-    (found _ _ _ _ _ _ h.size h.kept c.place_of-k.ensures _ c.is_at.ensures c.if-not-is_at.false) _
-    c.effect-e.ensures _ c.is_barred-barred.ensures c.if-barred-o.false
-    _ c.value_of-value.ensures _ c.write.ensures _ c.used_after-used.ensures
-    _ (c.target_or-pc.ensures ∙ rw c.fall.ensures) _ c.mode_or-mode.ensures c.if-m.false
+    goes c.loop-done.invariant c.loop-done-test.true c.slot_in-s.ensures.slot c.effect-e.ensures
+    (sym c.in_default.ensures) c.value_of-value.ensures c.write.ensures c.next-at.ensures c.used_after-used.ensures
+    c.if-e.false c.slot_in-s.ensures.kept
 
--- The limit is used up.
 pub returns : goal.returns
-returns c = c.report-2.ensures ∙ spent_is _ _ _ _ _ _ _ _ _ _ _ c.loop-done.invariant c.loop-done-test.false
+returns c = c.new-2.ensures ∙ rw c.values_at-2.ensures (spent_is c.loop-done.invariant (omega arith))

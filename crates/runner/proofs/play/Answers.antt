@@ -1,48 +1,27 @@
--- Each turn of the loop is the definition's turn, of both ways of a tick.
+-- Each turn of the loop is the definition's turn.
 use Rattle.std.proofs.Common.{◌∙◌, sym}
+use Rattle.runs.specs.Run.{left_after}
 use Rattle.sheet.proofs.Fair.{sheet_fair}
-use Rattle.stages.specs.Advance.{awake}
-use Rattle.runner.proofs.Loop.{begins, ends, goes}
-use Rattle.runner.proofs.Turns.{turn_moves, turn_waits}
-use Rattle.runner.specs.Inner.{ran_to}
+use Rattle.runner.proofs.Loop.{ends, goes, spent}
 use Rattle.runner.proofs.play.Goals as goal
 
-pub loop-ticks-init : goal.loop-ticks-init
-loop-ticks-init c = begins _ _ _ _ c.requires.bounds
-
-pub returns-in-Ends : goal.returns-in-Ends
-unfolding ran_to
-returns-in-Ends c =
-    c.report.ensures
-    ∙ ends _ (sheet_fair _ _ c.requires.checked) _ _ _ _ _ _ c.loop-ticks.invariant _ c.next_turn-turn.ensures _
-    c.in-Ends.is
-
-pub loop-ticks-preserved-then-waits_on : goal.loop-ticks-preserved-then-waits_on
-unfolding awake
-loop-ticks-preserved-then-waits_on c =
-    rw c.used_after-used.ensures (goes _ (sheet_fair _ _ c.requires.checked) _ _ _ _ _ _ c.loop-ticks.invariant _
-    c.next_turn-turn.ensures _ c.in-Ticks.is
-    (λ r o. turn_waits _ _ _ _
-    (record {
-      awake = r;
-      room = o;
-      stages = c.retire-l.ensures.value;
-      reg = c.retire-l.ensures.reg_after;
-    }) _ _
-    c.answer_for-answer.ensures _ _ _ (sym c.waits_on.ensures ∙ c.if-waits_on.true) c.unoffered.ensures
-    c.wait-s.ensures c.count-c.ensures))
+pub returns-in-Some : goal.returns-in-Some
+returns-in-Some c =
+    ends _ _ _ _ _ _ _ c.loop-ticks.invariant c.loop-ticks-test.true _ (sym c.next_turn.ensures ∙ c.in-Some.is)
 
 pub loop-ticks-preserved : goal.loop-ticks-preserved
-unfolding awake
+unfolding left_after
 loop-ticks-preserved c =
-    rw c.used_after-used.ensures (goes _ (sheet_fair _ _ c.requires.checked) _ _ _ _ _ _ c.loop-ticks.invariant _
-    c.next_turn-turn.ensures _ c.in-Ticks.is
-    (λ r o. turn_moves _ _ _ _
-    (record {
-      awake = r;
-      room = o;
-      stages = c.retire-l.ensures.value;
-      reg = c.retire-l.ensures.reg_after;
-    }) _ _
-    c.answer_for-answer.ensures _ _ _ (sym c.waits_on.ensures ∙ c.if-waits_on.false) _ c.plan-plan.ensures
-    c.offered.ensures c.advance-s.ensures c.count-c-else-waits_on.ensures))
+    rw c.tick-left.ensures.left
+    (goes _ _ _ _ _ _ _ c.loop-ticks.invariant c.loop-ticks-test.true (sheet_fair _ _ c.requires.checked)
+    (sym c.next_turn.ensures ∙ c.in_default.is) _ c.tick-left.ensures.state)
+
+pub returns-then-state : goal.returns-then-state
+returns-then-state c =
+    spent _ _ _ _ _ _ _ c.loop-ticks.invariant c.loop-ticks.auto.ticks-end c.loop-ticks-test.false _
+    (rw c.if-state.true)
+
+pub returns-else-state : goal.returns-else-state
+returns-else-state c =
+    spent _ _ _ _ _ _ _ c.loop-ticks.invariant c.loop-ticks.auto.ticks-end c.loop-ticks-test.false _
+    (rw c.if-state.false)

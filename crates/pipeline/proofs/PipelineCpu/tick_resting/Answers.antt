@@ -1,17 +1,15 @@
 -- Nothing moves: the given is tested, then a tick is counted.
-use Rattle.std.proofs.Common.{◌∙◌, ap}
-use borrow.Author.Tests.{le-ltb, lt-ltb}
-use Rattle.pipeline.proofs.Refusing.{on_passes, on_refuses, rest_code, rest_next}
-use Rattle.pipeline.specs.Names.{Accepted, PipelineCpu}
+use Rattle.std.proofs.Common.{sym}
+use Rattle.std.proofs.lemmas.Result.{err_from_is_err_and}
+use Rattle.pipeline.proofs.Refusing.{on_passes, on_refuses, rest_given, rest_next}
 use Rattle.pipeline.proofs.PipelineCpu.tick_resting.Goals as goal
 
-pub returns-then-k-gt0 : goal.returns-then-k-gt0
-returns-then-k-gt0 c =
-    c.refused.ensures
-    ∙ on_refuses _ _ _ (c.code-k.ensures ∙ rest_code _ c.requires.rests _) (lt-ltb _ _ c.if-k-gt0.true)
+pub returns-in_err-check : goal.returns-in_err-check
+returns-in_err-check c =
+    let p = err_from_is_err_and c.from_residual.result c.from_residual.ensures.1 in rw (p.1, p.2)
+    (on_refuses _ _ _ (rest_given _ c.requires.rests _) _ (sym (c.in_err-check.ensures)))
 
 pub returns : goal.returns
 returns c =
-    ap (λ (y : PipelineCpu). record { state = y; outcome = Accepted })
-    (rest_next _ c.requires.rests _ _ c.idle-self.ensures c.requires.room)
-    ∙ on_passes _ _ _ (c.code-k.ensures ∙ rest_code _ c.requires.rests _) (le-ltb _ _ c.if-k-gt0.false)
+    on_passes _ _ _ (rest_given _ c.requires.rests _) _ (sym c.in_ok-check.ensures)
+    (rest_next _ c.requires.rests _ _ c.idle.ensures c.requires.room)

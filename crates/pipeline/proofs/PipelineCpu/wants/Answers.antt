@@ -24,4 +24,4 @@ returns c =
       reg = c.retire-s.ensures.reg_after;
     })
     (sym c.waits_on.ensures ∙ c.if-waits_on.false) _ c.plan-plan.ensures _ _ _ _ c.fetches.ensures
-    c.fetch_of.ensures c.request-2.ensures c.origins_in.ensures
+    c.then_some.ensures c.request-2.ensures c.origins_in.ensures

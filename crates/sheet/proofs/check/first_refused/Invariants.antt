@@ -1,13 +1,7 @@
 -- What is left to test answers as the whole does.
-use Rattle.std.proofs.Common.{◌-◌, ◌≡◌, ◌≤◌}
+use Rattle.std.proofs.Common.{◌-◌, ◌≡◌}
 use Rattle.sheet.specs.Sheet.{first_refused}
 use Rattle.sheet.proofs.check.first_refused.Given as goal
 
 abbrev pub invariant-loop-k : goal.invariant-loop-k
-invariant-loop-k l = record {
-  in_range : l.k ≤ l.count;
-  same : first_refused l.sheet 0 l.count ≡ first_refused l.sheet l.k (l.count - l.k);
-}
-
-abbrev pub decreases-loop-k : goal.decreases-loop-k
-decreases-loop-k l = l.count - l.k
+invariant-loop-k l = first_refused l.sheet 0 l.count ≡ first_refused l.sheet l.k (l.count - l.k)

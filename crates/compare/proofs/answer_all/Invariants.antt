@@ -1,5 +1,0 @@
--- The turns are counted down.
-use Rattle.compare.proofs.answer_all.Given as goal
-
-abbrev pub decreases-loop-turns : goal.decreases-loop-turns
-decreases-loop-turns l = l.turns

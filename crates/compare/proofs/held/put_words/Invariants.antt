@@ -1,6 +1,0 @@
--- Each turn puts a number of the line.
-use Rattle.std.proofs.Common.{◌-◌}
-use Rattle.compare.proofs.held.put_words.Given as goal
-
-abbrev pub decreases-loop-i : goal.decreases-loop-i
-decreases-loop-i l = 66 - l.i

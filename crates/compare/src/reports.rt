@@ -1,0 +1,71 @@
+// Runs and plays of the first of what is held, and their reports.
+use crate::line::{Line, ToNumbers};
+use crate::requests::Requests;
+use pipeline::PipelineCpu;
+use player::{Played, PlayerEnd};
+use runs::Ran;
+use sheet::End;
+use std::alloc::AllocError;
+
+// The sheet, the load answers and the special registers that a run or a play is lent.
+#[derive(Clone, Copy)]
+pub struct Lent<'a> {
+    pub sheet: &'a [u8],
+    pub answers: &'a [u32],
+    pub table: &'a [u32],
+}
+
+// 0 halted, 1 spent, 2 loads, 3 refused with its number.
+impl ToNumbers for End {
+    fn to_numbers(self, line: &mut Line) -> Result<(), AllocError> {
+        line.write(match self {
+            End::Halted => [0, 0],
+            End::Spent => [1, 0],
+            End::Loads => [2, 0],
+            End::Refused(refusal) => [3, refusal.number()],
+        })
+    }
+}
+
+// The same, and 4 stopped.
+impl ToNumbers for PlayerEnd {
+    fn to_numbers(self, line: &mut Line) -> Result<(), AllocError> {
+        line.write(match self {
+            PlayerEnd::Halted => [0, 0],
+            PlayerEnd::Spent => [1, 0],
+            PlayerEnd::Loads => [2, 0],
+            PlayerEnd::Refused(refusal) => [3, refusal.number()],
+            PlayerEnd::Stopped => [4, 0],
+        })
+    }
+}
+
+// A run, and the requests of its ticks.
+#[derive(Clone, Copy)]
+pub struct Report {
+    ran: Ran,
+    requests: Requests,
+}
+
+impl Report {
+    pub fn of(state: PipelineCpu, lent: Lent<'_>, ran: Ran) -> Report {
+        Report {
+            ran,
+            requests: Requests::of(state, lent, ran.ticks),
+        }
+    }
+}
+
+impl ToNumbers for Report {
+    fn to_numbers(self, line: &mut Line) -> Result<(), AllocError> {
+        line.write((self.ran.end, self.ran.ticks))?;
+        line.write((self.requests, self.ran.state))
+    }
+}
+
+impl ToNumbers for Played {
+    fn to_numbers(self, line: &mut Line) -> Result<(), AllocError> {
+        line.write((self.end, self.done))?;
+        line.write(((self.used & 0xffff_ffff) as u32, self.values))
+    }
+}

@@ -1,0 +1,124 @@
+// The plainest values: flags, bytes, halves, words, counters, and groups of such.
+use crate::conversions::low_half;
+use crate::line::{Line, ToNumbers};
+use crate::numbers::{FromNumbers, Malformed, Numbers};
+use std::alloc::AllocError;
+
+// Nothing.
+impl FromNumbers for () {
+    fn from_numbers(_numbers: &mut Numbers<'_>) -> Result<(), Malformed> {
+        Ok(())
+    }
+}
+
+impl FromNumbers for u32 {
+    fn from_numbers(numbers: &mut Numbers<'_>) -> Result<u32, Malformed> {
+        numbers.number()
+    }
+}
+
+impl ToNumbers for u32 {
+    fn to_numbers(self, line: &mut Line) -> Result<(), AllocError> {
+        line.push(self)
+    }
+}
+
+impl FromNumbers for bool {
+    fn from_numbers(numbers: &mut Numbers<'_>) -> Result<bool, Malformed> {
+        Ok(numbers.number()? == 1)
+    }
+}
+
+impl ToNumbers for bool {
+    fn to_numbers(self, line: &mut Line) -> Result<(), AllocError> {
+        line.push(u32::from(self))
+    }
+}
+
+// 255 for a larger number.
+impl FromNumbers for u8 {
+    fn from_numbers(numbers: &mut Numbers<'_>) -> Result<u8, Malformed> {
+        Ok(u8::try_from(numbers.number()?).unwrap_or(u8::MAX))
+    }
+}
+
+impl ToNumbers for u8 {
+    fn to_numbers(self, line: &mut Line) -> Result<(), AllocError> {
+        line.push(u32::from(self))
+    }
+}
+
+// The low half of a larger number.
+impl FromNumbers for u16 {
+    fn from_numbers(numbers: &mut Numbers<'_>) -> Result<u16, Malformed> {
+        Ok(low_half(numbers.number()?))
+    }
+}
+
+impl ToNumbers for u16 {
+    fn to_numbers(self, line: &mut Line) -> Result<(), AllocError> {
+        line.push(u32::from(self))
+    }
+}
+
+// The high half first.
+impl FromNumbers for u64 {
+    fn from_numbers(numbers: &mut Numbers<'_>) -> Result<u64, Malformed> {
+        let high = u64::from(numbers.number()?);
+        let low = u64::from(numbers.number()?);
+        Ok(high << 32 | low)
+    }
+}
+
+impl ToNumbers for u64 {
+    fn to_numbers(self, line: &mut Line) -> Result<(), AllocError> {
+        line.push((self >> 32) as u32)?;
+        line.push((self & 0xffff_ffff) as u32)
+    }
+}
+
+impl<const N: usize> FromNumbers for [u32; N] {
+    fn from_numbers(numbers: &mut Numbers<'_>) -> Result<[u32; N], Malformed> {
+        let mut words = [0; N];
+        for word in &mut words {
+            *word = numbers.number()?;
+        }
+        Ok(words)
+    }
+}
+
+impl<const N: usize> ToNumbers for [u32; N] {
+    fn to_numbers(self, line: &mut Line) -> Result<(), AllocError> {
+        for word in self {
+            line.push(word)?;
+        }
+        Ok(())
+    }
+}
+
+impl<A: FromNumbers, B: FromNumbers> FromNumbers for (A, B) {
+    fn from_numbers(numbers: &mut Numbers<'_>) -> Result<(A, B), Malformed> {
+        Ok((numbers.read()?, numbers.read()?))
+    }
+}
+
+impl<A: ToNumbers, B: ToNumbers> ToNumbers for (A, B) {
+    fn to_numbers(self, line: &mut Line) -> Result<(), AllocError> {
+        line.write(self.0)?;
+        line.write(self.1)
+    }
+}
+
+impl<A: FromNumbers, B: FromNumbers, C: FromNumbers> FromNumbers for (A, B, C) {
+    fn from_numbers(numbers: &mut Numbers<'_>) -> Result<(A, B, C), Malformed> {
+        Ok((numbers.read()?, numbers.read()?, numbers.read()?))
+    }
+}
+
+impl<A: ToNumbers, B: ToNumbers, C: ToNumbers> ToNumbers for (A, B, C) {
+    fn to_numbers(self, line: &mut Line) -> Result<(), AllocError> {
+        line.write(self.0)?;
+        line.write(self.1)?;
+        line.write(self.2)
+    }
+}

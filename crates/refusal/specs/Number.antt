@@ -1,0 +1,21 @@
+-- The numbers of the refusals.
+use Rattle.std.specs.Prelude.{ℕ}
+use Rattle.refusal.specs.declared.Refusal.{Refusal}
+use Rattle.refusal.specs.declared.Refusal.TheVariants.{BadAnswer, BadCommand, BadLength, BadLimit, BadOffer}
+use Rattle.refusal.specs.declared.Refusal.TheVariants.{BadRegister, BadSpecial, CounterFull, Faulty, HighPreview}
+use Rattle.refusal.specs.declared.Refusal.TheVariants.{LongPreview, OutOfBounds}
+
+-- the number of a refusal
+unfoldable pub number_of : Refusal → ℕ
+number_of BadRegister = 1
+number_of BadOffer = 3
+number_of BadAnswer = 4
+number_of BadCommand = 5
+number_of BadLength = 6
+number_of BadLimit = 7
+number_of LongPreview = 8
+number_of HighPreview = 9
+number_of BadSpecial = 10
+number_of OutOfBounds = 11
+number_of Faulty = 12
+number_of CounterFull = 13
