@@ -10,7 +10,8 @@ use mathlib.Core.Path.{◌∙◌, ◌≡◌, ap, refl, subst, sym}
 use native.Mathlib.Omega.{arith}
 use Rattle.std.specs.Bool.{then_some}
 use Rattle.std.specs.Prelude.{Err, Ok, Result, Some}
-use Rattle.isa.proofs.Bools.{all3, split}
+use Rattle.std.proofs.lemmas.Bool.{and_from}
+use Rattle.isa.proofs.Bools.{split}
 use Rattle.isa.proofs.Machine.{walk}
 use Rattle.isa.specs.Machine.{Arch, Machine, Program, arch_with, first, is_empty, machine, rest, whole_program}
 use Rattle.isa.specs.Short.{decoded_of}
@@ -191,7 +192,7 @@ module _ (prog : Program) (w₀ : Arch) (len : length w₀.reg ≡ 32) (nought :
         (ok_in (decoded_of i₁) (fetch_place m s₁.stages).mode ≡ true)
     unfolding want_fetch fetch_at taken
     hi ru m e w =
-        let fit = fits (all3 _ _ _ aw ru (ap fetches e ∙ w)) in
+        let fit = fits (and_from _ _ aw (and_from _ _ ru (ap fetches e ∙ w))) in
         let o = offer_is t.offer (fetch_at r.state) fit in (
           off.offer i₁ o ∙ ap (λ (x : Move). prog.instruction (fetch_place x s₁.stages).pc
               (fetch_place x s₁.stages).mode) e,

@@ -11,7 +11,7 @@ use Rattle.isa.specs.Refusals.{is_of, ok_instruction, ok_raw}
 use Rattle.isa.specs.Short.{decoded_of}
 use Rattle.latch.specs.Memory.{request_in, requests}
 use Rattle.pipeline.specs.Advance.{next}
-use Rattle.pipeline.specs.Ask.{ask, asks, fetch_at, fetch_wanted, want_fetch, want_origins, want_special, wanted}
+use Rattle.pipeline.specs.Ask.{ask, asks, fetch_at, fetch_wanted, want_fetch, want_origins, wanted}
 use Rattle.pipeline.specs.Refusals.{Tests, and_then, pass, state_tests, test, verdict}
 use Rattle.pipeline.specs.Tick.{fits_offer, fits_special, ok_offer, same, taken, tests, tick}
 use Rattle.stages.specs.Advance.{awake}

@@ -7,7 +7,8 @@ use mathlib.Core.List.{List}
 use mathlib.Core.Path.{◌≡◌, refl, subst}
 use native.Mathlib.Omega.{arith}
 use Rattle.std.specs.Prelude.{None, Ok, Option, Some, is_some}
-use Rattle.isa.proofs.Bools.{both_l, both_r, or_l, or_r, split, un_not}
+use Rattle.std.proofs.lemmas.Bool.{and_parts, not-false, or_parts}
+use Rattle.isa.proofs.Bools.{split}
 use Rattle.isa.specs.Effect.{gives, goes_on, marked, no_access, raises}
 use Rattle.isa.specs.Inquiries.{fill, mfsr_with}
 use Rattle.isa.specs.Operands.{bare, ok_dest, ok_operands, operands_n, operands_of, plain}
@@ -47,16 +48,11 @@ pub record Within (l : Stages) : Type 0 where
 pub within : (l : Stages) → out_of_bounds l ≡ false → Within l
 unfolding out_of_bounds
 within l e =
-    let a = or_r (bad_if_id l.if_id) _ e in
-    let b = or_r (bad_id_ex l.id_ex) _ a in
-    let c = or_r (bad_ex_mem l.ex_mem) _ b in
-    record {
-      if_id = or_l (bad_if_id l.if_id) _ e;
-      id_ex = or_l (bad_id_ex l.id_ex) _ a;
-      ex_mem = or_l (bad_ex_mem l.ex_mem) _ b;
-      mem_wb = or_l (bad_mem_wb l.mem_wb) _ c;
-      wait = ltb-false 15 l.ex_cycles_left (or_r (bad_mem_wb l.mem_wb) _ c);
-    }
+    let a = or_parts (bad_if_id l.if_id) _ e in
+    let b = or_parts (bad_id_ex l.id_ex) _ a.1 in
+    let c = or_parts (bad_ex_mem l.ex_mem) _ b.1 in
+    let d = or_parts (bad_mem_wb l.mem_wb) _ c.1 in
+    record { if_id = a.0; id_ex = b.0; ex_mem = c.0; mem_wb = d.0; wait = ltb-false 15 l.ex_cycles_left d.1 }
 
 pub in_bounds : (l : Stages) → Within l → out_of_bounds l ≡ false
 unfolding out_of_bounds
@@ -71,10 +67,10 @@ unfolding ok_raw ok_instruction decoded_of operands_of
 raw_ok (RawNormal i) e = e
 raw_ok (RawShort h) e = short_ok (decode_short h)
 
-raw_decoded : (r : RawInstr) → ok_raw r ≡ true → ok_decoded (decoded_of r) ≡ true
+raw_code_lem : (r : RawInstr) → ok_raw r ≡ true → ok_decoded (decoded_of r) ≡ true
 unfolding ok_raw ok_decoded decoded_of
-raw_decoded (RawNormal i) e = e
-raw_decoded (RawShort h) e = refl
+raw_code_lem (RawNormal i) e = e
+raw_code_lem (RawShort h) e = refl
 
 decoded_in : (g : Bool) (r : RawInstr) (p : ℕ) (m : Mode) (rs : List ℕ) → ok_raw r ≡ true
     → bad_id_ex (id_ex_of g (decoded_of r) p m rs) ≡ false
@@ -82,8 +78,9 @@ unfolding bad_id_ex id_ex_of id_ex_by ok_operands
 decoded_in g r p m rs e =
     let o = operands_of (decoded_of r) in
     let q = raw_ok r e in
-    let q₁ = both_r (ltb o.src_a 32) _ q in
-    rw (raw_decoded r e, both_r (ltb o.src_b 32) _ q₁, over _ (both_l _ _ q), over _ (both_l _ _ q₁))
+    let q₁ = (and_parts (ltb o.src_a 32) _ q).1 in
+    let q₂ = and_parts (ltb o.src_b 32) _ q₁ in
+    rw (raw_code_lem r e, q₂.1, over _ (and_parts _ _ q).0, over _ q₂.0)
     (sources_in (decoded_of r))
 
 empty_id_ex_lem : bad_id_ex empty_id_ex ≡ false
@@ -123,9 +120,9 @@ latch_in : (l : IdEx) (e : Effect) → bad_id_ex l ≡ false → bad_width e.acc
     → bad_ex_mem (ex_mem_of l e) ≡ false
 unfolding bad_id_ex bad_ex_mem ex_mem_of
 latch_in l e h w =
-    let c = or_l (not (ok_decoded l.decoded)) _ h in
-    let d = un_not _ (or_l (not (ok_dest l.dest)) _ (or_r (not (ok_decoded l.decoded)) _ h)) in
-    rw (c, dest_in e l.dest d, w)
+    let c = or_parts (not (ok_decoded l.decoded)) _ h in
+    let d = not-false _ (or_parts (not (ok_dest l.dest)) _ c.1).0 in
+    rw (c.0, dest_in e l.dest d, w)
 
 execute_in : (s : PipelineCpu) (c : Option (Option ℕ)) → bad_id_ex s.stages.id_ex ≡ false
     → bad_ex_mem (executed s.stages s.reg c) ≡ false
@@ -147,12 +144,13 @@ memory_dest l v h = split l.valid
 memory_in : (l : ExMem) (v : ℕ) → bad_ex_mem l ≡ false → bad_mem_wb (mem_wb_of l v) ≡ false
 unfolding bad_ex_mem bad_mem_wb
 memory_in l v h =
-    rw (memory_dest l v (un_not _ (or_l (not (ok_dest l.dest)) _ (or_r (not (ok_decoded l.decoded)) _ h))))
+    rw (memory_dest l v
+    (not-false _ (or_parts (not (ok_dest l.dest)) _ (or_parts (not (ok_decoded l.decoded)) _ h).1).0))
 
 next_in : (s : PipelineCpu) → bad_if_id s.stages.if_id ≡ false → bad_id_ex (next_id_ex s.stages s.reg) ≡ false
 unfolding next_id_ex decode_predicted bad_if_id
 next_in s e = split s.stages.if_id.valid
-    (λ z. rw z (decoded_in _ s.stages.if_id.raw s.stages.if_id.pc s.stages.if_id.mode s.reg (un_not _ e)))
+    (λ z. rw z (decoded_in _ s.stages.if_id.raw s.stages.if_id.pc s.stages.if_id.mode s.reg (not-false _ e)))
     (λ z. rw z empty_id_ex_lem)
 
 fetched_in : (b : Bool) (l : IfId) (q : Place) (i : RawInstr) → bad_if_id l ≡ false → ok_raw i ≡ true

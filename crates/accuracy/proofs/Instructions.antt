@@ -7,7 +7,8 @@ use mathlib.Core.Bool.{Bool, ◌&&◌, ◌||◌, cond, false, false≢true, not,
 use mathlib.Core.Path.{◌∙◌, ◌≡◌, refl, subst, sym}
 use native.Mathlib.Omega.{arith}
 use Rattle.std.specs.Prelude.{None, Option, Some, is_some, unwrap_or}
-use Rattle.isa.proofs.Bools.{and_3, and_r, nor, or_l, or_r, split, un_not}
+use Rattle.std.proofs.lemmas.Bool.{and_parts, false_from_ne_true, not-false, or_parts}
+use Rattle.isa.proofs.Bools.{and_r, split}
 use Rattle.isa.specs.Effect.{branches, effect_n, effect_of, effect_s, fall, gives, goes_by, goes_on, identifies}
 use Rattle.isa.specs.Effect.{inquires, jumps, links, marked, no_access, no_marks, no_result, nothing, privileged}
 use Rattle.isa.specs.Effect.{raises, reaches, resumes, sets, stops, written}
@@ -180,21 +181,13 @@ even u i p m x y =
     let e = effect_of u i p x y in
     let o = operands_of i in
     let g = predict i p m in
-    let r₀ = not_odd u i p m x y in
-    let r₁ = or_r (odd_load (is_mul i) (is_div i) o e g) _ r₀ in
-    let r₂ = or_r (odd_store o e) _ r₁ in
-    let r₃ = or_r (odd_wait (is_mul i) (is_div i) o e g) _ r₂ in
-    let r₄ = or_r (odd_latency (is_mul i) (is_div i) o) _ r₃ in
-    let r₅ = or_r (odd_swap e.branch_new_mode g e.redirect) _ r₄ in
-    record {
-      load = or_l (odd_load (is_mul i) (is_div i) o e g) _ r₀;
-      store = or_l (odd_store o e) _ r₁;
-      wait = or_l (odd_wait (is_mul i) (is_div i) o e g) _ r₂;
-      latency = or_l (odd_latency (is_mul i) (is_div i) o) _ r₃;
-      swap = or_l (odd_swap e.branch_new_mode g e.redirect) _ r₄;
-      mode = or_l (odd_mode (kind i) e.branch_new_mode e.redirect) _ r₅;
-      bounds = or_r (odd_mode (kind i) e.branch_new_mode e.redirect) _ r₅;
-    }
+    let r₀ = or_parts (odd_load (is_mul i) (is_div i) o e g) _ (not_odd u i p m x y) in
+    let r₁ = or_parts (odd_store o e) _ r₀.1 in
+    let r₂ = or_parts (odd_wait (is_mul i) (is_div i) o e g) _ r₁.1 in
+    let r₃ = or_parts (odd_latency (is_mul i) (is_div i) o) _ r₂.1 in
+    let r₄ = or_parts (odd_swap e.branch_new_mode g e.redirect) _ r₃.1 in
+    let r₅ = or_parts (odd_mode (kind i) e.branch_new_mode e.redirect) _ r₄.1 in
+    record { load = r₀.0; store = r₁.0; wait = r₂.0; latency = r₃.0; swap = r₄.0; mode = r₅.0; bounds = r₅.1 }
 
 -- a short instruction's registers are below 32
 pub gpr_ok : (r : ℕ) → ltb (gpr r) 32 ≡ true
@@ -335,9 +328,11 @@ ok_kind (DecShort i) Short e = refl
 
 pub ok_dest_lem : (i : Decoded) (m : Mode) → ok_in i m ≡ true → ok_dest (operands_of i).dest ≡ true
 unfolding ok_in operands_of ok_operands
-ok_dest_lem (DecNormal i) Normal e = and_3 (ltb (operands_n i).src_a 32) (ltb (operands_n i).src_b 32) _ e
+ok_dest_lem (DecNormal i) Normal e =
+    (and_parts (ltb (operands_n i).src_b 32) _ (and_parts (ltb (operands_n i).src_a 32) _ e).1).1
 ok_dest_lem (DecNormal i) Short e = cc
-ok_dest_lem (DecShort i) m e = and_3 (ltb (operands_s i).src_a 32) (ltb (operands_s i).src_b 32) _ (short_ok i)
+ok_dest_lem (DecShort i) m e =
+    (and_parts (ltb (operands_s i).src_b 32) _ (and_parts (ltb (operands_s i).src_a 32) _ (short_ok i)).1).1
 
 -- the destination of an effect is in bounds where the instruction's is
 pub dest_in : (e : Effect) (d : Option ℕ) → ok_dest d ≡ true → ok_dest (dest_of e d) ≡ true
@@ -347,21 +342,21 @@ dest_in e d h = split e.alu.writes (λ z. rw z h) (λ z. rw z)
 -- the width of an effect and the number of sources are in bounds
 pub width_in : (u : Bool) (i : Decoded) (p x y : ℕ) → bad_width (effect_of u i p x y).access.mem_size ≡ false
 unfolding odd_bounds
-width_in u i p x y = or_l (bad_width (effect_of u i p x y).access.mem_size) _ (even u i p Normal x y).bounds
+width_in u i p x y = (or_parts (bad_width (effect_of u i p x y).access.mem_size) _ (even u i p Normal x y).bounds).0
 
 sources_rest : (i : Decoded) → (ltb 2 (operands_of i).n_srcs || (not (ltb 0 (operands_of i).n_srcs) && not
     (eqb (operands_of i).src_a 0))) ≡ false
 unfolding odd_bounds
-sources_rest i = or_r (bad_width (effect_of false i 0 0 0).access.mem_size) _ (even false i 0 Normal 0 0).bounds
+sources_rest i = (or_parts (bad_width (effect_of false i 0 0 0).access.mem_size) _ (even false i 0 Normal 0 0).bounds).1
 
 pub sources_in : (i : Decoded) → ltb 2 (operands_of i).n_srcs ≡ false
-sources_in i = or_l (ltb 2 (operands_of i).n_srcs) _ (sources_rest i)
+sources_in i = (or_parts (ltb 2 (operands_of i).n_srcs) _ (sources_rest i)).0
 
 -- no source: the first is R0
 pub no_source : (i : Decoded) → ltb 0 (operands_of i).n_srcs ≡ false → (operands_of i).src_a ≡ 0
 no_source i e = eqb-true (operands_of i).src_a 0
-    (un_not _ (and_r (not (ltb 0 (operands_of i).n_srcs)) _ (or_r (ltb 2 (operands_of i).n_srcs) _
-    (sources_rest i)) (rw e)))
+    (not-false _ (and_r (not (ltb 0 (operands_of i).n_srcs)) _
+    (or_parts (ltb 2 (operands_of i).n_srcs) _ (sources_rest i)).1 (rw e)))
 
 pub on_on : (g h : Option Place) (p : ℕ) (m : Mode) → (is_some h || is_some g) ≡ false
     → mispredict (is_some g) h p m ≡ None
@@ -375,16 +370,16 @@ slow_rest : (i : Decoded) →
     ((is_mul i && is_div i) || (not (ltb 1 (operands_of i).n_srcs) && not (eqb (operands_of i).src_b 0))) ≡
     false
 unfolding odd_wait
-slow_rest i = or_r ((is_mul i || is_div i) && (is_some (effect_of false i 0 0 0).redirect || is_some
-    (predict i 0 Normal))) _ (even false i 0 Normal 0 0).wait
+slow_rest i = (or_parts ((is_mul i || is_div i) && (is_some (effect_of false i 0 0 0).redirect || is_some
+    (predict i 0 Normal))) _ (even false i 0 Normal 0 0).wait).1
 
 pub slow_one : (i : Decoded) → (is_mul i && is_div i) ≡ false
-slow_one i = or_l (is_mul i && is_div i) _ (slow_rest i)
+slow_one i = (or_parts (is_mul i && is_div i) _ (slow_rest i)).0
 
 -- the waits: 2 for a multiply, 15 for a divide
 pub waits_is : (i : Decoded) → waits i ≡ 2 * bit (is_mul i) + 15 * bit (is_div i)
 unfolding waits odd_latency
-waits_is i = eqb-true _ _ (un_not _ (even false i 0 Normal 0 0).latency)
+waits_is i = eqb-true _ _ (not-false _ (even false i 0 Normal 0 0).latency)
 
 -- what a load does and does not
 pub record Plain (i : Decoded) (p : ℕ) (m : Mode) (e : Effect) : Type 0 where
@@ -402,23 +397,21 @@ unfolding odd_load bit
 load_plain i p m e v z =
     let o = operands_of i in
     let g = predict i p m in
-    let r1 = and_r o.is_load _ v.load z in
-    let w = or_l (is_mul i || is_div i) _ r1 in
-    let r2 = or_r (is_mul i || is_div i) _ r1 in
-    let t = or_l (is_some e.redirect || is_some g) _ r2 in
-    let r3 = or_r (is_some e.redirect || is_some g) _ r2 in
-    let sc = or_l (o.is_store || e.marks.cpuid) _ r3 in
-    let r4 = or_r (o.is_store || e.marks.cpuid) _ r3 in
-    let tw = or_l (is_some e.marks.exception || eqb e.access.mem_size 0) _ r4 in
-    let r5 = or_r (is_some e.marks.exception || eqb e.access.mem_size 0) _ r4 in
+    let r₁ = or_parts (is_mul i || is_div i) _ (and_r o.is_load _ v.load z) in
+    let r₂ = or_parts (is_some e.redirect || is_some g) _ r₁.1 in
+    let r₃ = or_parts (o.is_store || e.marks.cpuid) _ r₂.1 in
+    let r₄ = or_parts (is_some e.marks.exception || eqb e.access.mem_size 0) _ r₃.1 in
+    let slow = or_parts (is_mul i) (is_div i) r₁.0 in
+    let marks = or_parts o.is_store _ r₃.0 in
+    let access = or_parts (is_some e.marks.exception) _ r₄.0 in
     record {
-      straight = λ q. on_on g _ q m t;
-      quick = waits_is i ∙ rw (or_l (is_mul i) (is_div i) w, or_r (is_mul i) (is_div i) w);
-      is_store = or_l o.is_store _ sc;
-      cpuid = or_r o.is_store _ sc;
-      exception = or_l (is_some e.marks.exception) _ tw;
-      mem_size = or_r (is_some e.marks.exception) _ tw;
-      writes = un_not e.alu.writes r5;
+      straight = λ q. on_on g _ q m r₂.0;
+      quick = waits_is i ∙ rw (slow.0, slow.1);
+      is_store = marks.0;
+      cpuid = marks.1;
+      exception = access.0;
+      mem_size = access.1;
+      writes = not-false e.alu.writes r₄.1;
     }
 
 -- what a store does not
@@ -432,14 +425,10 @@ pub store_plain : (i : Decoded) (p : ℕ) (m : Mode) (e : Effect) → Even i p m
 unfolding odd_store
 store_plain i p m e v z =
     let o = operands_of i in
-    let r1 = and_r o.is_store _ (or_r (e.alu.always_writes && not (e.alu.writes && is_some o.dest)) _
-    v.store) z in
-    let r2 = or_r (e.alu.writes && is_some o.dest) _ r1 in
-    record {
-      dest = or_l (e.alu.writes && is_some o.dest) _ r1;
-      exception = or_l (is_some e.marks.exception) _ r2;
-      mem_size = or_r (is_some e.marks.exception) _ r2;
-    }
+    let r₀ = or_parts (e.alu.always_writes && not (e.alu.writes && is_some o.dest)) _ v.store in
+    let r₁ = or_parts (e.alu.writes && is_some o.dest) _ (and_r o.is_store _ r₀.1 z) in
+    let r₂ = or_parts (is_some e.marks.exception) _ r₁.1 in
+    record { dest = r₁.0; exception = r₂.0; mem_size = r₂.1 }
 
 -- what is written back in any case has a destination
 force_by : (f w d : Bool) → (f && not (w && d)) ≡ false → (f || (w && d)) ≡ (w && d)
@@ -455,7 +444,7 @@ unfolding odd_store
 force_none i p m e v =
     let o = operands_of i in
     force_by e.alu.always_writes e.alu.writes (is_some o.dest)
-    (or_l (e.alu.always_writes && not (e.alu.writes && is_some o.dest)) _ v.store)
+    (or_parts (e.alu.always_writes && not (e.alu.writes && is_some o.dest)) _ v.store).0
 
 -- multiplies and divides
 bits : (u v : Bool) → 0 < 2 * bit u + 15 * bit v → (u || v) ≡ true
@@ -470,8 +459,8 @@ unfolding odd_wait
 slow_straight i p m e v q h =
     on_on (predict i p m) _ q m
     (and_r (is_mul i || is_div i) _
-    (or_l _ ((is_mul i && is_div i) || (not (ltb 1 (operands_of i).n_srcs) && not
-    (eqb (operands_of i).src_b 0))) v.wait)
+    (or_parts _ ((is_mul i && is_div i) || (not (ltb 1 (operands_of i).n_srcs) && not
+    (eqb (operands_of i).src_b 0))) v.wait).0
     (bits (is_mul i) (is_div i) (subst (λ (n : ℕ). 0 < n) (waits_is i) h)))
 
 -- a load does not wait
@@ -479,7 +468,7 @@ pub load_quick : (i : Decoded) → (operands_of i).is_load ≡ true → waits i 
 load_quick i e = (load_plain i 0 Normal _ (even false i 0 Normal 0 0) e).quick
 
 pub slow_load : (i : Decoded) → 0 < waits i → (operands_of i).is_load ≡ false
-slow_load i h = nor (operands_of i).is_load
+slow_load i h = false_from_ne_true (operands_of i).is_load
     (λ e. let z = load_quick i e in omega arith)
 
 bits_in : (u v : Bool) → (u && v) ≡ false → 2 * bit u + 15 * bit v ≤ 15
@@ -495,7 +484,8 @@ waits_in i = let e = waits_is i in let h = bits_in (is_mul i) (is_div i) (slow_o
 -- fewer than two sources: the second is R0
 pub few : (i : Decoded) → ltb 1 (operands_of i).n_srcs ≡ false → (operands_of i).src_b ≡ 0
 few i e = eqb-true (operands_of i).src_b 0
-    (un_not _ (and_r (not (ltb 1 (operands_of i).n_srcs)) _ (or_r (is_mul i && is_div i) _ (slow_rest i)) (rw e)))
+    (not-false _ (and_r (not (ltb 1 (operands_of i).n_srcs)) _
+    (or_parts (is_mul i && is_div i) _ (slow_rest i)).1 (rw e)))
 
 -- a change of mode: the mode that a jump, never guessed, goes to
 swap_by : (n : Option Mode) (g h : Option Place) (f : ℕ) (m : Mode) → odd_swap n g h ≡ false
@@ -519,7 +509,7 @@ unfolding odd_swap mode_or
 swap_to None g h m o = refl
 swap_to (Some n) (Some t) h m o = cc
 swap_to (Some n) None None m o = cc
-swap_to (Some n) None (Some t) m o = mode_eq n t.mode (un_not _ o)
+swap_to (Some n) None (Some t) m o = mode_eq n t.mode (not-false _ o)
 
 pub swap_kept : (i : Decoded) (p : ℕ) (m : Mode) (e : Effect) → Even i p m e → (f : ℕ)
     → is_some (mispredict (is_some (predict i p m)) e.redirect f m) ≡ false
@@ -535,10 +525,10 @@ stays_by : (n : Option Mode) (g h : Option Place) (m : Mode) → odd_swap n g h 
     → unwrap_or n m ≡ mode_or h m
 unfolding odd_swap odd_mode mode_or
 stays_by None g None m o q = refl
-stays_by None g (Some t) m o q = mode_eq m t.mode (un_not _ q)
+stays_by None g (Some t) m o q = mode_eq m t.mode (not-false _ q)
 stays_by (Some n) (Some t) h m o q = cc
 stays_by (Some n) None None m o q = cc
-stays_by (Some n) None (Some t) m o q = mode_eq n t.mode (un_not _ o)
+stays_by (Some n) None (Some t) m o q = mode_eq n t.mode (not-false _ o)
 
 pub mode_stays : (i : Decoded) (p : ℕ) (m : Mode) (e : Effect) → Even i p m e → kind i ≡ m
     → unwrap_or e.branch_new_mode m ≡ mode_or e.redirect m

@@ -8,7 +8,8 @@ use mathlib.Core.List.{List, ◌++◌, append-nil}
 use mathlib.Core.Path.{◌∙◌, ◌≡◌, ap, refl, subst, sym}
 use native.Mathlib.Omega.{arith}
 use Rattle.std.specs.Prelude.{None, Option, Some, is_some, unwrap_or}
-use Rattle.isa.proofs.Bools.{both_l, both_r, split}
+use Rattle.std.proofs.lemmas.Bool.{and_parts}
+use Rattle.isa.proofs.Bools.{split}
 use Rattle.isa.proofs.Machine.{step, walk}
 use Rattle.isa.specs.Effect.{effect_of, fall}
 use Rattle.isa.specs.Inquiries.{fill}
@@ -748,8 +749,8 @@ module _ (prog : Program) (w₀ : Arch) where
 
             hazard_load : hazard s.stages ≡ true → (operands_of (I n₂)).is_load ≡ true
             unfolding hazard load_use dx_at id_ex_of id_ex_by instruction_at
-            hazard_load e = sym (ap (λ (l : IdEx). l.is_load) dxe) ∙ both_l s.stages.id_ex.is_load _
-                (both_r s.stages.id_ex.valid _ (both_r s.stages.if_id.valid _ e))
+            hazard_load e = sym (ap (λ (l : IdEx). l.is_load) dxe) ∙ (and_parts s.stages.id_ex.is_load _
+                (and_parts s.stages.id_ex.valid _ (and_parts s.stages.if_id.valid _ e).1).1).0
 
             hazard_next : turn_at prog (W n₂) ≡ None → hazard s.stages ≡ is_used_load (I n₂) (I (suc n₂))
             unfolding hazard load_use dx_at id_ex_of id_ex_by instruction_at is_used_load

@@ -6,7 +6,8 @@ use mathlib.Core.Bool.{Bool, ◌&&◌, cond, false, true}
 use mathlib.Core.List.{List, [], ◌∷◌}
 use mathlib.Core.Path.{◌∙◌, ◌≡◌, ap, refl, sym}
 use Rattle.std.specs.Prelude.{Err, None, Ok, Option, Result, Some, ⊤}
-use Rattle.isa.proofs.Bools.{both_l, both_r, split}
+use Rattle.std.proofs.lemmas.Bool.{and_parts}
+use Rattle.isa.proofs.Bools.{split}
 use Rattle.isa.specs.Inquiries.{look_up}
 use Rattle.isa.specs.Machine.{Program, Source}
 use Rattle.isa.specs.Short.{decoded_of}
@@ -135,8 +136,8 @@ put_agrees f g q d h [] a b = tt
 put_agrees f g q d h (x ∷ l) a b = (
   split (eqb x.0.pc q.pc && same_mode x.0.mode q.mode)
       (λ z.
-      let k : x.0.pc ≡ q.pc = eqb-true _ _ (both_l _ _ z) in
-      let m : x.0.mode ≡ q.mode = mode_eq _ _ (both_r (eqb x.0.pc q.pc) _ z) in
+      let k : x.0.pc ≡ q.pc = eqb-true _ _ (and_parts _ _ z).0 in
+      let m : x.0.mode ≡ q.mode = mode_eq _ _ (and_parts (eqb x.0.pc q.pc) _ z).1 in
       rw z (cc (h, a.0)))
       (λ z. rw z b.0),
   put_agrees f g q d h l a.1 b.1,

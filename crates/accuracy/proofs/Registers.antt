@@ -4,7 +4,7 @@ use borrow.Author.Tests.{eqb-false, eqb-true, lt-ltb, ltb-false, ltb-true, ne_eq
 use lib.Dec.{eqb, ltb}
 use lib.ListN.{get_or, length, length-set, set}
 use lib.Seq.{get_or-set_other, get_or-set_same, set-get_or}
-use mathlib.Core.Bool.{Bool, ◌&&◌, cond, false, false≢true, true}
+use mathlib.Core.Bool.{Bool, ◌&&◌, and-false, cond, false, false≢true, true}
 use mathlib.Core.List.{List}
 use mathlib.Core.Path.{◌∙◌, ◌≡◌, ap, refl, sym}
 use native.Mathlib.Omega.{arith}
@@ -26,13 +26,9 @@ pub is_reg_lem : (r : ℕ) → eqb r 0 ≡ false → ltb r 32 ≡ true → is_re
 unfolding is_reg
 is_reg_lem r z h = rw (lt-ltb 0 r (pos_of r (eqb-false r 0 z)), h)
 
-and_false : (b : Bool) → (b && false) ≡ false
-and_false true = refl
-and_false false = refl
-
 no_reg : (r : ℕ) → ltb r 32 ≡ false → is_reg r ≡ false
 unfolding is_reg
-no_reg r k = rw k (and_false (ltb 0 r))
+no_reg r k = rw k (and-false (ltb 0 r))
 
 -- what a register reads after a write
 pub read_set : (rs : List ℕ) (i v r : ℕ) → length rs ≡ 32 → i < 32 → eqb r 0 ≡ false

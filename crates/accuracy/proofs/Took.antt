@@ -4,7 +4,7 @@ use mathlib.Core.Bool.{Bool, false, true}
 use mathlib.Core.List.{[], ◌∷◌}
 use mathlib.Core.Path.{◌≡◌, ap, refl}
 use Rattle.std.specs.Prelude.{None, Ok, Option, Some, is_some, option_to_list}
-use Rattle.isa.proofs.Bools.{un_not}
+use Rattle.std.proofs.lemmas.Bool.{not-false}
 use Rattle.isa.specs.Refusals.{is_of, ok_instruction, ok_raw}
 use Rattle.isa.specs.Short.{decoded_of}
 use Rattle.latch.specs.Retire.{halts}
@@ -44,10 +44,10 @@ took s t s' e =
       bounds = p.0;
       sound = p.1.0;
       room = p.1.1.0;
-      fair = un_not _ p.1.1.1.0;
-      fetch = un_not _ p.1.1.1.1.0;
-      is_load = un_not _ p.1.1.1.1.1.0;
-      special = un_not _ p.1.1.1.1.1.1.0;
+      fair = not-false _ p.1.1.1.0;
+      fetch = not-false _ p.1.1.1.1.0;
+      is_load = not-false _ p.1.1.1.1.1.0;
+      special = not-false _ p.1.1.1.1.1.1.0;
       is = r.1;
     }
 

@@ -113,8 +113,8 @@ module _ (sheet table : List ℕ) (v : Start) (len : length v.reg ≡ 32) (l : L
       record {
         done = ap (λ (p : Played). p.done) q ∙ d ∙ sym h.count;
         reg = ap (λ (p : Played). p.values.reg) q ∙ ap (λ (w : Arch). w.reg) a ∙ sym h.reg;
-        pc = ap (λ (p : Played). p.values.pc) q ∙ ap (λ (w : Arch). w.pc) a ∙ sym h.pc;
-        mode = ap (λ (p : Played). p.values.mode) q ∙ ap (λ (w : Arch). w.mode) a ∙ sym h.mode;
+        pc = ap (λ (p : Played). p.values.at.pc) q ∙ ap (λ (w : Arch). w.pc) a ∙ sym h.pc;
+        mode = ap (λ (p : Played). p.values.at.mode) q ∙ ap (λ (w : Arch). w.mode) a ∙ sym h.mode;
       }
 
   -- the ticks accepted among the first of a run's

@@ -17,8 +17,8 @@ use Rattle.agreement.specs.Names.{Given, Halted, PipelineCpu, PlayHalted, Played
 pub record Same (p : Played) (s : PipelineCpu) : Type 0 where
   pub done : p.done ≡ s.counts.instructions_executed
   pub reg : p.values.reg ≡ s.reg
-  pub pc : p.values.pc ≡ s.stages.retire_at.pc
-  pub mode : p.values.mode ≡ s.stages.retire_at.mode
+  pub pc : p.values.at.pc ≡ s.stages.retire_at.pc
+  pub mode : p.values.at.mode ≡ s.stages.retire_at.mode
 
 -- After each of a run's ticks, with N retired by then: the player with limit N.
 abbrev pub EveryTick : Type 0

@@ -5,17 +5,9 @@ use pipeline::parts::is_mul_div;
 use pipeline::{PipelineCpu, Wanted};
 use refusal::Refusal;
 
-// What is wanted where asking is refused.
-pub const NOTHING: Wanted = Wanted {
-    fetch: None,
-    request: None,
-    special: None,
-    origins: None,
-};
-
 // The high half and the low half of what the arithmetic of a command gives.
 pub fn arithmetic([command, a, b]: [u32; 3]) -> [u32; 2] {
-    match word::arithmetic(command, a, b) {
+    match word::checked_arithmetic(command, a, b) {
         Some(word) => [0, word],
         None => [1, Refusal::BadCommand.number()],
     }
@@ -33,15 +25,15 @@ pub fn code<T: Copy>(answer: Result<T, Refusal>) -> u32 {
     }
 }
 
-// The code and what is wanted.
+// The code and what is wanted: nothing where asking is refused.
 pub fn asked(state: PipelineCpu) -> (u32, Wanted) {
     let asked = state.ask();
-    (code(asked), asked.unwrap_or(NOTHING))
+    (code(asked), asked.unwrap_or_default())
 }
 
 // 0 for no latency.
 pub fn latency(decoded: Decoded) -> Result<u32, Refusal> {
-    Ok(is_mul_div(decoded)?.unwrap_or(0))
+    Ok(is_mul_div(decoded)?.unwrap_or_default())
 }
 
 pub fn retired(state: PipelineCpu) -> Result<PipelineCpu, Refusal> {

@@ -1,4 +1,5 @@
-// The numbers of an instruction: its variant's position in the enum, and its fields in order.
+// The numbers of an instruction: its variant's position in the enum, and its fields in order. They are a case line's
+// (tests/CASES.md), and are told apart here alone.
 use crate::conversions::{low_byte, low_half};
 use crate::fields::Field;
 use crate::line::{Line, ToNumbers};

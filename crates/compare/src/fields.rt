@@ -1,7 +1,8 @@
 // The fields of an instruction, each a number.
 use crate::numbers::Malformed;
+use std::num::TryFromIntError;
 
-// A signed field's number is by two's complement. A number that is none of a field's values is malformed.
+// A number that is none of a field's values is malformed.
 pub trait Field: Copy {
     fn of(number: u32) -> Result<Self, Malformed>;
 
@@ -22,42 +23,25 @@ impl Field for () {
     }
 }
 
-impl Field for u8 {
-    fn of(number: u32) -> Result<u8, Malformed> {
-        Ok(u8::try_from(number)?)
+// An integer of 8 or 16 bits.
+pub trait Narrow: Copy + Into<i32> + TryFrom<i32, Error = TryFromIntError> {}
+
+impl Narrow for u8 {}
+
+impl Narrow for u16 {}
+
+impl Narrow for i8 {}
+
+impl Narrow for i16 {}
+
+// A signed field's number is by two's complement.
+impl<T: Narrow> Field for T {
+    fn of(number: u32) -> Result<T, Malformed> {
+        Ok(T::try_from(number.cast_signed())?)
     }
 
     fn number(self) -> u32 {
-        u32::from(self)
-    }
-}
-
-impl Field for u16 {
-    fn of(number: u32) -> Result<u16, Malformed> {
-        Ok(u16::try_from(number)?)
-    }
-
-    fn number(self) -> u32 {
-        u32::from(self)
-    }
-}
-
-impl Field for i8 {
-    fn of(number: u32) -> Result<i8, Malformed> {
-        Ok(i8::try_from(number.cast_signed())?)
-    }
-
-    fn number(self) -> u32 {
-        i32::from(self).cast_unsigned()
-    }
-}
-
-impl Field for i16 {
-    fn of(number: u32) -> Result<i16, Malformed> {
-        Ok(i16::try_from(number.cast_signed())?)
-    }
-
-    fn number(self) -> u32 {
-        i32::from(self).cast_unsigned()
+        let number: i32 = self.into();
+        number.cast_unsigned()
     }
 }

@@ -1,18 +1,19 @@
 // What is held from line to line: the state of a list of ticks, the sheet, the load answers and the table of special
 // registers.
 use crate::case::Case;
-use crate::cases::{NOTHING, arithmetic, asked, code, latency, retired, short_operands};
+use crate::cases::{arithmetic, asked, code, latency, retired, short_operands};
 use crate::failure::Failure;
-use crate::inputs::{Bytes, Halfword, InBounds};
+use crate::inputs::{Halfword, InBounds};
 use crate::kind::Kind;
-use crate::line::Line;
-use crate::numbers::Malformed;
-use crate::reports::{Lent, Report};
+use crate::line::{Line, ToNumbers};
+use crate::numbers::{FromNumbers, Malformed};
+use crate::reports::Report;
 use isa::{Decoded, ShortInstruction, Start};
 use pipeline::PipelineCpu;
 use pipeline::parts::{id_sources, load_use_hazard};
-use runs::Ran;
+use sheet::Inputs;
 use std::alloc::{AllocError, Global};
+use std::convert::AsSlice;
 
 #[derive(Drop)]
 pub struct Held {
@@ -23,18 +24,23 @@ pub struct Held {
     table: Vec<u32>,
 }
 
-// The first so many.
+// The first so many. `as`, here and in `put`, since the library has no `From` of 32 bits for `usize`.
 fn first<T>(held: &[T], count: u32) -> Result<&[T], Malformed> {
     held.get(..count as usize).ok_or(Malformed)
 }
 
-// Puts values behind a place, as many as have room there.
-fn put<T: Copy>(held: &mut [T], at: u32, values: &[T]) {
+// Puts a case's values behind its place, as many as have room there.
+fn put<T: Copy, V: FromNumbers + AsSlice<T>>(
+    held: &mut [T],
+    case: Case<'_>,
+) -> Result<Option<Line>, Failure> {
+    let (at, values): (u32, V) = case.input()?;
     if let Some(places) = held.get_mut(at as usize..) {
-        for (place, value) in places.iter_mut().zip(values) {
-            *place = *value;
-        }
+        let values = values.as_slice();
+        let count = places.len().min(values.len());
+        places[..count].copy_from_slice(&values[..count]);
     }
+    Ok(None)
 }
 
 impl Held {
@@ -80,12 +86,18 @@ impl Held {
             Kind::HeldStart => self.start(case),
             Kind::HeldTick => self.tick(case),
             Kind::HeldState => self.show(case),
-            Kind::HeldSheet => self.put_sheet(case),
-            Kind::HeldAnswers => put_words(self.answers.as_mut_slice(), case),
-            Kind::HeldTable => put_words(self.table.as_mut_slice(), case),
-            Kind::Run => self.run(case, runner::run),
-            Kind::Play => self.play(case),
-            Kind::Preview => self.run(case, panel::preview),
+            Kind::HeldSheet => put::<u8, [u8; 256]>(self.sheet.as_mut_slice(), case),
+            Kind::HeldAnswers => put::<u32, [u32; 64]>(self.answers.as_mut_slice(), case),
+            Kind::HeldTable => put::<u32, [u32; 64]>(self.table.as_mut_slice(), case),
+            Kind::Run => self.run(
+                case,
+                |state, inputs| Report::of(state, inputs, runner::run(state, inputs)),
+            ),
+            Kind::Play => self.run(case, player::play),
+            Kind::Preview => self.run(
+                case,
+                |state, inputs| Report::of(state, inputs, panel::preview(state, inputs)),
+            ),
         }
     }
 
@@ -96,7 +108,7 @@ impl Held {
 
     // One tick of the state held: its code, and what asking named before it.
     fn tick(&mut self, case: Case<'_>) -> Result<Option<Line>, Failure> {
-        let wanted = self.state.ask().unwrap_or(NOTHING);
+        let wanted = self.state.ask().unwrap_or_default();
         let ticked = self.state.tick(case.input()?);
         self.state = ticked.state;
         Ok(Some(Line::of(self.alloc, (code(ticked.outcome), wanted))?))
@@ -107,44 +119,32 @@ impl Held {
         case.answer(|()| state)
     }
 
-    fn put_sheet(&mut self, case: Case<'_>) -> Result<Option<Line>, Failure> {
-        let (at, Bytes(bytes)) = case.input()?;
-        put(self.sheet.as_mut_slice(), at, &bytes);
-        Ok(None)
-    }
-
-    // The first of what is held, so much of each.
-    fn lent(&self, [bytes, answers, words]: [u32; 3]) -> Result<Lent<'_>, Malformed> {
-        Ok(Lent {
+    // The first of what is held, so much of each, and a limit.
+    fn inputs(
+        &self,
+        limit: u32,
+        [bytes, answers, words]: [u32; 3],
+    ) -> Result<Inputs<'_>, Malformed> {
+        Ok(Inputs {
             sheet: first(self.sheet.as_slice(), bytes)?,
             answers: first(self.answers.as_slice(), answers)?,
             table: first(self.table.as_slice(), words)?,
+            limit,
         })
     }
 
-    // A run by the runner or by the panel.
-    fn run<F>(&self, case: Case<'_>, run: F) -> Result<Option<Line>, Failure>
+    // A run by the runner or by the panel, or a play: what a function makes of a beginning and of what is held.
+    fn run<S: FromNumbers, R: ToNumbers, F>(
+        &self,
+        case: Case<'_>,
+        run: F,
+    ) -> Result<Option<Line>, Failure>
     where
-        F: FnOnce(PipelineCpu, &[u8], &[u32], &[u32], u32) -> Ran,
+        F: FnOnce(S, Inputs<'_>) -> R,
         requires { F.IsAlwaysCallable run }
     {
-        let (state, limit, lengths): (PipelineCpu, u32, [u32; 3]) = case.input()?;
-        let lent = self.lent(lengths)?;
-        let ran = run(state, lent.sheet, lent.answers, lent.table, limit);
-        Ok(Some(Line::of(self.alloc, Report::of(state, lent, ran))?))
+        let (start, limit, lengths): (S, u32, [u32; 3]) = case.input()?;
+        let report = run(start, self.inputs(limit, lengths)?);
+        Ok(Some(Line::of(self.alloc, report)?))
     }
-
-    fn play(&self, case: Case<'_>) -> Result<Option<Line>, Failure> {
-        let (start, limit, lengths): (Start, u32, [u32; 3]) = case.input()?;
-        let lent = self.lent(lengths)?;
-        let played = player::play(start, lent.sheet, lent.answers, lent.table, limit);
-        Ok(Some(Line::of(self.alloc, played)?))
-    }
-}
-
-// Puts 64 words behind a place.
-fn put_words(words: &mut [u32], case: Case<'_>) -> Result<Option<Line>, Failure> {
-    let (at, values): (u32, [u32; 64]) = case.input()?;
-    put(words, at, &values);
-    Ok(None)
 }

@@ -28,17 +28,3 @@ impl FromNumbers for InBounds {
         }
     }
 }
-
-// The bytes of 64 words, each high byte first.
-#[derive(Clone, Copy)]
-pub struct Bytes(pub [u8; 256]);
-
-impl FromNumbers for Bytes {
-    fn from_numbers(numbers: &mut Numbers<'_>) -> Result<Bytes, Malformed> {
-        let mut bytes = [0; 256];
-        for word in bytes.chunks_exact_mut(4) {
-            word.copy_from_slice(&numbers.number()?.to_be_bytes());
-        }
-        Ok(Bytes(bytes))
-    }
-}

@@ -35,7 +35,8 @@ impl ToNumbers for RawInstr {
     }
 }
 
-// 0 for none, 1 before a Normal instruction, 2 before a halfword.
+// 0 for none, 1 before a Normal instruction, 2 before a halfword. The numbers are a case line's (tests/CASES.md), and are
+// told apart here alone.
 impl FromNumbers for Option<RawInstr> {
     fn from_numbers(numbers: &mut Numbers<'_>) -> Result<Option<RawInstr>, Malformed> {
         let tag = numbers.number()?;

@@ -1,4 +1,5 @@
-// Modes, and values that may be none.
+// Modes, and values that may be none. Their numbers are a case line's (tests/CASES.md), and are told apart here alone.
+// `as` alone reads the number of an enum's variant.
 use crate::conversions::{low_byte, low_half};
 use crate::line::{Line, ToNumbers};
 use crate::numbers::{FromNumbers, Malformed, Numbers};
@@ -27,6 +28,7 @@ impl ToNumbers for Mode {
 }
 
 // 0 for none, and else the mode's number and 1.
+// A function for this and an optional register would be given the conversions of each, and be no shorter.
 impl FromNumbers for Option<Mode> {
     fn from_numbers(numbers: &mut Numbers<'_>) -> Result<Option<Mode>, Malformed> {
         Ok(numbers.number()?.checked_sub(1).map(mode))
@@ -74,33 +76,35 @@ impl ToNumbers for Option<Exception> {
     }
 }
 
+// A value behind a flag.
+fn read_flagged<T: FromNumbers>(numbers: &mut Numbers<'_>) -> Result<Option<T>, Malformed> {
+    let (is_some, value): (bool, T) = numbers.read()?;
+    Ok(is_some.then_some(value))
+}
+
+// A flag and the value, all zeros for none.
+fn flagged<T: Default>(value: Option<T>) -> (bool, T) {
+    (value.is_some(), value.unwrap_or_default())
+}
+
 // A flag, the special register's number and the word.
 impl FromNumbers for Option<Mtsr> {
     fn from_numbers(numbers: &mut Numbers<'_>) -> Result<Option<Mtsr>, Malformed> {
-        let is_some: bool = numbers.read()?;
-        let mtsr = Mtsr {
-            sr: numbers.read()?,
-            value: numbers.read()?,
-        };
-        Ok(is_some.then_some(mtsr))
+        let value = read_flagged(numbers)?;
+        Ok(value.map(|(sr, value)| Mtsr { sr, value }))
     }
 }
 
 impl ToNumbers for Option<Mtsr> {
     fn to_numbers(self, line: &mut Line) -> Result<(), AllocError> {
-        match self {
-            None => line.write([0; 3]),
-            Some(mtsr) => line.write((true, mtsr.sr, mtsr.value)),
-        }
+        line.write(flagged(self.map(|mtsr| (mtsr.sr, mtsr.value))))
     }
 }
 
 // A load's answer: a flag and the word.
 impl FromNumbers for Option<u32> {
     fn from_numbers(numbers: &mut Numbers<'_>) -> Result<Option<u32>, Malformed> {
-        let is_some: bool = numbers.read()?;
-        let word = numbers.number()?;
-        Ok(is_some.then_some(word))
+        read_flagged(numbers)
     }
 }
 
@@ -120,20 +124,14 @@ impl FromNumbers for Option<Option<u32>> {
 // A flag, the address and its mode.
 impl ToNumbers for Option<Place> {
     fn to_numbers(self, line: &mut Line) -> Result<(), AllocError> {
-        match self {
-            None => line.write([0; 3]),
-            Some(place) => line.write((true, place)),
-        }
+        line.write(flagged(self.map(|place| (place.pc, place.mode as u32))))
     }
 }
 
 // A special register: a flag and its number.
 impl ToNumbers for Option<u16> {
     fn to_numbers(self, line: &mut Line) -> Result<(), AllocError> {
-        match self {
-            None => line.write([0; 2]),
-            Some(sr) => line.write((true, sr)),
-        }
+        line.write(flagged(self))
     }
 }
 

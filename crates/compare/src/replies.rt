@@ -40,7 +40,7 @@ impl ToNumbers for Wanted {
     }
 }
 
-// The places in their order, from 1 on.
+// The places in their order, from 1 on. `as` alone reads the number of an enum's variant.
 impl ToNumbers for Origin {
     fn to_numbers(self, line: &mut Line) -> Result<(), AllocError> {
         line.push(self as u32 + 1)

@@ -1,19 +1,12 @@
 // Runs and plays of the first of what is held, and their reports.
+use crate::conversions::low_word;
 use crate::line::{Line, ToNumbers};
 use crate::requests::Requests;
 use pipeline::PipelineCpu;
 use player::{Played, PlayerEnd};
 use runs::Ran;
-use sheet::End;
+use sheet::{End, Inputs};
 use std::alloc::AllocError;
-
-// The sheet, the load answers and the special registers that a run or a play is lent.
-#[derive(Clone, Copy)]
-pub struct Lent<'a> {
-    pub sheet: &'a [u8],
-    pub answers: &'a [u32],
-    pub table: &'a [u32],
-}
 
 // 0 halted, 1 spent, 2 loads, 3 refused with its number.
 impl ToNumbers for End {
@@ -27,7 +20,7 @@ impl ToNumbers for End {
     }
 }
 
-// The same, and 4 stopped.
+// The same, and 4 stopped. The two ends are enums of two crates, and have only these numbers in common.
 impl ToNumbers for PlayerEnd {
     fn to_numbers(self, line: &mut Line) -> Result<(), AllocError> {
         line.write(match self {
@@ -48,10 +41,10 @@ pub struct Report {
 }
 
 impl Report {
-    pub fn of(state: PipelineCpu, lent: Lent<'_>, ran: Ran) -> Report {
+    pub fn of(state: PipelineCpu, inputs: Inputs<'_>, ran: Ran) -> Report {
         Report {
             ran,
-            requests: Requests::of(state, lent, ran.ticks),
+            requests: Requests::of(state, inputs, ran.ticks),
         }
     }
 }
@@ -63,9 +56,10 @@ impl ToNumbers for Report {
     }
 }
 
+// `as`, since the library has no `From` of `usize` for 64 bits.
 impl ToNumbers for Played {
     fn to_numbers(self, line: &mut Line) -> Result<(), AllocError> {
         line.write((self.end, self.done))?;
-        line.write(((self.used & 0xffff_ffff) as u32, self.values))
+        line.write((low_word(self.used as u64), self.values))
     }
 }

@@ -1,9 +1,8 @@
 // The requests of a run's ticks, by asking before each: how many, and a hash of them in order.
-use crate::cases::NOTHING;
 use crate::line::{Line, ToNumbers};
-use crate::reports::Lent;
 use isa::Request;
 use pipeline::{Given, PipelineCpu};
+use sheet::Inputs;
 use sheet::offer::offer_at;
 use sheet::specials::special_at;
 use std::alloc::AllocError;
@@ -49,22 +48,22 @@ impl Requests {
     }
 
     // Those of so many ticks from a state.
-    pub fn of(mut state: PipelineCpu, lent: Lent<'_>, ticks: u32) -> Requests {
+    pub fn of(mut state: PipelineCpu, inputs: Inputs<'_>, ticks: u32) -> Requests {
         let mut requests = Requests {
             count: 0,
             hash: HASH_OF_NONE,
         };
-        let mut answers = lent.answers.iter().copied();
+        let mut answers = inputs.answers.iter().copied();
         for _ in 0..ticks {
-            let wanted = state.ask().unwrap_or(NOTHING);
+            let wanted = state.ask().unwrap_or_default();
             let answer = match wanted.request {
                 Some(Request::Load { .. }) => answers.next(),
                 _ => None,
             };
             let given = Given {
-                offer: wanted.fetch.map(|place| offer_at(lent.sheet, place)),
+                offer: wanted.fetch.map(|place| offer_at(inputs.sheet, place)),
                 answer,
-                special: special_at(lent.table, wanted.special),
+                special: special_at(inputs.table, wanted.special),
             };
             state = state.tick(given).state;
             if let Some(request) = wanted.request {

@@ -25,8 +25,7 @@ impl FromNumbers for Start {
     fn from_numbers(numbers: &mut Numbers<'_>) -> Result<Start, Malformed> {
         Ok(Start {
             reg: numbers.read()?,
-            pc: numbers.read()?,
-            mode: numbers.read()?,
+            at: numbers.read()?,
             user: numbers.read()?,
             features: numbers.read()?,
         })
@@ -36,7 +35,7 @@ impl FromNumbers for Start {
 impl ToNumbers for Start {
     fn to_numbers(self, line: &mut Line) -> Result<(), AllocError> {
         let reg = self.reg;
-        line.write((reg, self.pc, self.mode))?;
+        line.write((reg, self.at))?;
         line.write((self.user, self.features))
     }
 }

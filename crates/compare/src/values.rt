@@ -1,5 +1,5 @@
 // The plainest values: flags, bytes, halves, words, counters, and groups of such.
-use crate::conversions::low_half;
+use crate::conversions::{low_half, low_word};
 use crate::line::{Line, ToNumbers};
 use crate::numbers::{FromNumbers, Malformed, Numbers};
 use std::alloc::AllocError;
@@ -17,21 +17,26 @@ impl FromNumbers for u32 {
     }
 }
 
-impl ToNumbers for u32 {
+// A value that one number stands for.
+pub trait OneNumber: Copy + Into<u32> {}
+
+impl OneNumber for u32 {}
+
+impl OneNumber for bool {}
+
+impl OneNumber for u8 {}
+
+impl OneNumber for u16 {}
+
+impl<T: OneNumber> ToNumbers for T {
     fn to_numbers(self, line: &mut Line) -> Result<(), AllocError> {
-        line.push(self)
+        line.push(self.into())
     }
 }
 
 impl FromNumbers for bool {
     fn from_numbers(numbers: &mut Numbers<'_>) -> Result<bool, Malformed> {
         Ok(numbers.number()? == 1)
-    }
-}
-
-impl ToNumbers for bool {
-    fn to_numbers(self, line: &mut Line) -> Result<(), AllocError> {
-        line.push(u32::from(self))
     }
 }
 
@@ -42,22 +47,10 @@ impl FromNumbers for u8 {
     }
 }
 
-impl ToNumbers for u8 {
-    fn to_numbers(self, line: &mut Line) -> Result<(), AllocError> {
-        line.push(u32::from(self))
-    }
-}
-
 // The low half of a larger number.
 impl FromNumbers for u16 {
     fn from_numbers(numbers: &mut Numbers<'_>) -> Result<u16, Malformed> {
         Ok(low_half(numbers.number()?))
-    }
-}
-
-impl ToNumbers for u16 {
-    fn to_numbers(self, line: &mut Line) -> Result<(), AllocError> {
-        line.push(u32::from(self))
     }
 }
 
@@ -72,8 +65,8 @@ impl FromNumbers for u64 {
 
 impl ToNumbers for u64 {
     fn to_numbers(self, line: &mut Line) -> Result<(), AllocError> {
-        line.push((self >> 32) as u32)?;
-        line.push((self & 0xffff_ffff) as u32)
+        line.push(low_word(self >> 32))?;
+        line.push(low_word(self))
     }
 }
 
@@ -87,6 +80,17 @@ impl<const N: usize> FromNumbers for [u32; N] {
     }
 }
 
+// The bytes of 64 words, each high byte first.
+impl FromNumbers for [u8; 256] {
+    fn from_numbers(numbers: &mut Numbers<'_>) -> Result<[u8; 256], Malformed> {
+        let mut bytes = [0; 256];
+        for word in bytes.chunks_exact_mut(4) {
+            word.copy_from_slice(&numbers.number()?.to_be_bytes());
+        }
+        Ok(bytes)
+    }
+}
+
 impl<const N: usize> ToNumbers for [u32; N] {
     fn to_numbers(self, line: &mut Line) -> Result<(), AllocError> {
         for word in self {
@@ -96,6 +100,7 @@ impl<const N: usize> ToNumbers for [u32; N] {
     }
 }
 
+// Each length of a tuple has an impl of its own, as in the library.
 impl<A: FromNumbers, B: FromNumbers> FromNumbers for (A, B) {
     fn from_numbers(numbers: &mut Numbers<'_>) -> Result<(A, B), Malformed> {
         Ok((numbers.read()?, numbers.read()?))

@@ -1,4 +1,5 @@
-// A number's digits, put into a lent array.
+// A number's digits, put into a lent array. `put_digits` promises both bases, and one loop serves both. The library's
+// formatter puts digits into a text, and the kit's crate `itoa` decimal ones alone into a buffer of its own.
 //
 // Wrong programs that the promise of `put_digits` rules out: a leading zero; the digits from the last to the first; upper
 // case; nothing for the number 0; a byte before the digits written too.
@@ -15,7 +16,7 @@ pub enum Base {
 }
 
 impl Base {
-    // How many digits it has.
+    // How many digits it has. `as` alone reads the number of an enum's variant.
     #[tactic(auto, unfolding(crate::specs::Digits::radix))]
     fn radix(self) -> u64
         ensures { result ≡ radix self }
@@ -23,7 +24,7 @@ impl Base {
         self as u64
     }
 
-    // A number's last digit.
+    // A number's last digit. What `as` cuts is below 16, and an ASCII letter; `try_from` would test that again.
     #[tactic(auto, unfolding(crate::specs::Digits::radix, crate::specs::Digits::digit))]
     fn last_digit(self, n: u64) -> u8
         ensures { result ≡ digit (n % radix self) }

@@ -18,7 +18,8 @@ pub fn read_full<R: Read>(from: &mut R, buf: &mut [u8]) -> Result<usize>
         ((n : ℕ) × (n ≤ length buf.new) × Consumes (R.remaining from.old) (R.remaining from.new) (take n buf.new)) }
     ensures end { IfOk result (λ n. n < length buf.new → IsAtEnd (R.remaining from.new)) }
 {
-    // The loop keeps the count, which is the answer; the rest as a slice that moves on would need the count beside it.
+    // The loop keeps the count, which is the answer; the rest as a slice that moves on would need the count beside it. The
+    // library's `read_exact` fails where the input is shorter than the buffer, and gives no count.
     let mut done = 0;
     while done < buf.len() {
         let n = from.read(&mut buf[done..])?;

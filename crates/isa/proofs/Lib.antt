@@ -2,3 +2,4 @@ pub mod Asks
 pub mod Bools
 pub mod Machine
 pub mod Nibbles
+pub mod OnLiterals

@@ -93,9 +93,9 @@ resumes = marked (record { halt = false; iret = true; cpuid = false; exception =
 unfoldable pub identifies : Effect
 identifies = marked (record { halt = false; iret = false; cpuid = true; exception = None; mtsr = None })
 
--- an exception
-unfoldable pub raises : Exception → Effect
-raises e = marked (record { halt = false; iret = false; cpuid = false; exception = Some e; mtsr = None })
+-- an exception, where one is raised
+unfoldable pub raises : Option Exception → Effect
+raises e = marked (record { halt = false; iret = false; cpuid = false; exception = e; mtsr = None })
 
 -- MTSR: word v for special register sr
 unfoldable pub sets : ℕ → ℕ → Effect
@@ -108,7 +108,7 @@ inquires sr = record
 
 -- in user mode a privileged instruction raises an exception
 unfoldable pub privileged : Bool → Effect → Effect
-privileged u e = cond u (raises PrivilegedInstruction) e
+privileged u e = cond u (raises (Some PrivilegedInstruction)) e
 
 -- n: the address after the instruction
 unfoldable pub effect_n : Bool → Instruction → ℕ → ℕ → ℕ → Effect
@@ -150,9 +150,9 @@ effect_n u (Stb rd base offset) n x y = reaches false 1 (offset32 x offset) y
 effect_n u (Sth rd base offset) n x y = reaches false 2 (offset32 x offset) y
 effect_n u (Ldil rd imm) n x y = gives (ldil32 x imm)
 effect_n u (Ldih rd imm) n x y = gives (ldih32 x imm)
-effect_n u (Unknown high low) n x y = raises IllegalInstruction
+effect_n u (Unknown high low) n x y = raises (Some IllegalInstruction)
 effect_n u Iret n x y = privileged u resumes
-effect_n u (Syscall imm) n x y = raises (SyscallException imm)
+effect_n u (Syscall imm) n x y = raises (Some (SyscallException imm))
 effect_n u (Mfsr rd sr) n x y = privileged u (inquires sr)
 effect_n u (Mtsr rs sr) n x y = privileged u (sets sr x)
 
@@ -169,7 +169,7 @@ effect_s (ShortJr rd) n x y = jumps x Short None
 effect_s (ShortJal offset) n x y = links n (offset32 n offset) Short None
 effect_s (ShortLdi rd imm) n x y = gives imm
 effect_s ShortRet n x y = jumps n Normal (Some Normal)
-effect_s (ShortUnknown h) n x y = raises IllegalInstruction
+effect_s (ShortUnknown h) n x y = raises (Some IllegalInstruction)
 
 -- u: in user mode; p: the instruction's address
 unfoldable pub effect_of : Bool → Decoded → ℕ → ℕ → ℕ → Effect

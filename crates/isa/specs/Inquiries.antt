@@ -6,8 +6,8 @@ use Rattle.isa.specs.Names.{DecNormal, Decoded, Effect, IllegalInstruction, Mfsr
 -- what MFSR does with what is said of the register that it asks for, if anything: its word is the result; without one,
 -- as where there is no such register, it is an illegal instruction
 unfoldable pub mfsr_with : Option (Option ℕ) → Effect
-mfsr_with None = raises IllegalInstruction
-mfsr_with (Some None) = raises IllegalInstruction
+mfsr_with None = raises (Some IllegalInstruction)
+mfsr_with (Some None) = raises (Some IllegalInstruction)
 mfsr_with (Some (Some v)) = gives v
 
 -- an effect with what is said of the special register that it asks for; one that asks for none stays as it is

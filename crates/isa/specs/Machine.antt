@@ -51,11 +51,11 @@ pub record Arch : Type 0 where
 
 -- the machine before its first step, from a start's values and fed a list of answers
 unfoldable pub arch_with : Start → List ℕ → Arch
-arch_with v l = record { reg = set v.reg 0 0; pc = v.pc; mode = v.mode; answers = l; requests = [] }
+arch_with v l = record { reg = set v.reg 0 0; pc = v.at.pc; mode = v.at.mode; answers = l; requests = [] }
 
 -- RULES 20.1: registers, address and feature word 0, Normal, supervisor
 unfoldable pub zero_start : Start
-zero_start = record { reg = replicate 32 0; pc = 0; mode = Normal; user = false; features = 0 }
+zero_start = record { reg = replicate 32 0; at = record { pc = 0; mode = Normal }; user = false; features = 0 }
 
 -- the next answer; 0 where none is left
 unfoldable pub first : List ℕ → ℕ

@@ -2,7 +2,7 @@
 ghost use Rattle.std.specs.Prelude.{◌≡◌};
 ghost use Rattle.word.specs.Words.{offset32};
 ghost use Rattle.isa.specs.Effect.{branches, effect_n, effect_of, effect_s, gives, goes_by, goes_on, identifies};
-ghost use Rattle.isa.specs.Effect.{inquires, jumps, links, marked, no_access, no_marks, no_result, nothing};
+ghost use Rattle.isa.specs.Effect.{inquires, jumps, links, marked, nothing};
 ghost use Rattle.isa.specs.Effect.{privileged, raises, reaches, resumes, sets, stops, written};
 
 use crate::{
@@ -22,47 +22,8 @@ fn written(v: u32, always: bool) -> AluResult
     }
 }
 
-// No word for a destination.
-#[tactic(auto, unfolding(crate::specs::Effect::no_result))]
-fn no_result() -> AluResult
-    ensures { result ≡ no_result }
-{
-    AluResult {
-        value: 0,
-        writes: false,
-        always_writes: false,
-    }
-}
-
-// Nothing asked of the memory.
-#[tactic(auto, unfolding(crate::specs::Effect::no_access))]
-fn no_access() -> Access
-    ensures { result ≡ no_access }
-{
-    Access {
-        mem_addr: 0,
-        store_value: 0,
-        mem_size: 0,
-        is_mem_read: false,
-    }
-}
-
-// Nothing left to the retirement.
-#[tactic(auto, unfolding(crate::specs::Effect::no_marks))]
-fn no_marks() -> Marks
-    ensures { result ≡ no_marks }
-{
-    Marks {
-        halt: false,
-        iret: false,
-        cpuid: false,
-        exception: None,
-        mtsr: None,
-    }
-}
-
 // A result and an access, and on to the next address.
-#[tactic(auto, unfolding(crate::specs::Effect::goes_on))]
+#[tactic(auto, unfolding(crate::specs::Effect::goes_on, crate::specs::Effect::no_marks))]
 fn goes_on(alu: AluResult, access: Access) -> Effect
     ensures { result ≡ goes_on alu access }
 {
@@ -71,34 +32,34 @@ fn goes_on(alu: AluResult, access: Access) -> Effect
         access,
         redirect: None,
         branch_new_mode: None,
-        marks: no_marks(),
+        marks: Marks::default(),
         inquiry: None,
     }
 }
 
 // A result, and the way `redirect`; `n`: the mode that it changes to.
-#[tactic(auto, unfolding(crate::specs::Effect::goes_by))]
+#[tactic(auto, unfolding(crate::specs::Effect::goes_by, crate::specs::Effect::no_access, crate::specs::Effect::no_marks))]
 fn goes_by(alu: AluResult, redirect: Option<Place>, n: Option<Mode>) -> Effect
     ensures { result ≡ goes_by alu redirect n }
 {
     Effect {
         alu,
-        access: no_access(),
+        access: Access::default(),
         redirect,
         branch_new_mode: n,
-        marks: no_marks(),
+        marks: Marks::default(),
         inquiry: None,
     }
 }
 
 // Nothing but marks.
-#[tactic(auto, unfolding(crate::specs::Effect::marked))]
+#[tactic(auto, unfolding(crate::specs::Effect::marked, crate::specs::Effect::no_result, crate::specs::Effect::no_access))]
 fn marked(marks: Marks) -> Effect
     ensures { result ≡ marked marks }
 {
     Effect {
-        alu: no_result(),
-        access: no_access(),
+        alu: AluResult::default(),
+        access: Access::default(),
         redirect: None,
         branch_new_mode: None,
         marks,
@@ -107,19 +68,19 @@ fn marked(marks: Marks) -> Effect
 }
 
 // NOP.
-#[tactic(auto, unfolding(crate::specs::Effect::nothing))]
+#[tactic(auto, unfolding(crate::specs::Effect::nothing, crate::specs::Effect::no_marks))]
 fn nothing() -> Effect
     ensures { result ≡ nothing }
 {
-    marked(no_marks())
+    marked(Marks::default())
 }
 
 // The destination gets `v`.
-#[tactic(auto, unfolding(crate::specs::Effect::gives))]
+#[tactic(auto, unfolding(crate::specs::Effect::gives, crate::specs::Effect::no_access))]
 pub(crate) fn gives(v: u32) -> Effect
     ensures { result ≡ gives v }
 {
-    goes_on(written(v, false), no_access())
+    goes_on(written(v, false), Access::default())
 }
 
 // A load (`l`) of width `w` at address `a`, or a store of `v` there.
@@ -142,7 +103,7 @@ fn reaches(l: bool, w: u8, a: u32, v: u32) -> Effect
 }
 
 // A conditional branch by offset `o` from `n`, where `c` holds.
-#[tactic(auto, unfolding(crate::specs::Effect::branches))]
+#[tactic(auto, unfolding(crate::specs::Effect::branches, crate::specs::Effect::no_result))]
 fn branches(c: bool, n: u32, o: i16, m: Mode) -> Effect
     ensures { result ≡ branches c (offset32 n o) m }
 {
@@ -150,15 +111,16 @@ fn branches(c: bool, n: u32, o: i16, m: Mode) -> Effect
         pc: word::add_signed(n, o),
         mode: m,
     };
-    goes_by(no_result(), c.then_some(target), None)
+    goes_by(AluResult::default(), c.then_some(target), None)
 }
 
-// A jump to `q` in mode `m`; `n`: the mode that it changes to. Address and mode come apart from the table's rows.
-#[tactic(auto, unfolding(crate::specs::Effect::jumps))]
+// A jump to `q` in mode `m`; `n`: the mode that it changes to. Address and mode come apart, here
+// and in `links`, as the table's rows have them.
+#[tactic(auto, unfolding(crate::specs::Effect::jumps, crate::specs::Effect::no_result))]
 fn jumps(q: u32, m: Mode, n: Option<Mode>) -> Effect
     ensures { result ≡ jumps q m n }
 {
-    goes_by(no_result(), Some(Place { pc: q, mode: m }), n)
+    goes_by(AluResult::default(), Some(Place { pc: q, mode: m }), n)
 }
 
 // A jump that leaves the address `v` of the next instruction.
@@ -176,7 +138,7 @@ fn stops() -> Effect
 {
     marked(Marks {
         halt: true,
-        ..no_marks()
+        ..Marks::default()
     })
 }
 
@@ -187,7 +149,7 @@ fn resumes() -> Effect
 {
     marked(Marks {
         iret: true,
-        ..no_marks()
+        ..Marks::default()
     })
 }
 
@@ -198,18 +160,18 @@ fn identifies() -> Effect
 {
     marked(Marks {
         cpuid: true,
-        ..no_marks()
+        ..Marks::default()
     })
 }
 
-// An exception.
+// An exception, where one is raised.
 #[tactic(auto, unfolding(crate::specs::Effect::raises, crate::specs::Effect::no_marks))]
-pub fn raises(e: Exception) -> Effect
+pub fn raises(e: Option<Exception>) -> Effect
     ensures { result ≡ raises e }
 {
     marked(Marks {
-        exception: Some(e),
-        ..no_marks()
+        exception: e,
+        ..Marks::default()
     })
 }
 
@@ -220,7 +182,7 @@ fn sets(sr: u16, v: u32) -> Effect
 {
     marked(Marks {
         mtsr: Some(Mtsr { sr, value: v }),
-        ..no_marks()
+        ..Marks::default()
     })
 }
 
@@ -241,7 +203,7 @@ fn privileged(user: bool, e: Effect) -> Effect
     ensures { result ≡ privileged user e }
 {
     if user {
-        return raises(Exception::PrivilegedInstruction);
+        return raises(Some(Exception::PrivilegedInstruction));
     }
     e
 }
@@ -305,9 +267,9 @@ impl Instruction {
             Instruction::Sth { offset, .. } => reaches(false, 2, word::add_signed(a, offset), b),
             Instruction::Ldil { imm, .. } => gives(word::ldil(a, u32::from(imm))),
             Instruction::Ldih { imm, .. } => gives(word::ldih(a, u32::from(imm))),
-            Instruction::Unknown(_, _) => raises(Exception::IllegalInstruction),
+            Instruction::Unknown(_, _) => raises(Some(Exception::IllegalInstruction)),
             Instruction::Iret => privileged(user, resumes()),
-            Instruction::Syscall { imm } => raises(Exception::Syscall(imm)),
+            Instruction::Syscall { imm } => raises(Some(Exception::Syscall(imm))),
             Instruction::Mfsr { sr, .. } => privileged(user, inquires(sr)),
             Instruction::Mtsr { sr, .. } => privileged(user, sets(sr, a)),
         }
@@ -347,7 +309,7 @@ impl ShortInstruction {
             ),
             ShortInstruction::Ldi { imm, .. } => gives(u32::from(imm)),
             ShortInstruction::Ret => jumps(n, Mode::Normal, Some(Mode::Normal)),
-            ShortInstruction::Unknown(_) => raises(Exception::IllegalInstruction),
+            ShortInstruction::Unknown(_) => raises(Some(Exception::IllegalInstruction)),
         }
     }
 }

@@ -13,7 +13,7 @@ pub fn mfsr_with(special: Option<Option<u32>>) -> Effect
 {
     match special.flatten() {
         Some(v) => gives(v),
-        None => raises(Exception::IllegalInstruction),
+        None => raises(Some(Exception::IllegalInstruction)),
     }
 }
 

@@ -8,6 +8,7 @@
 // - write_reg: a word for R1 where no destination is named; R0 put to 0.
 // - write_cpuid: R2 written where the instruction is not CPUID; the two words exchanged.
 // - Start::zero: Short mode; the user flag set.
+// - RawInstr::default, Decoded::default: HALT for NOP (offer_default_halts, decoded_default_halts); a Short instruction.
 // - Operands::predict: every conditional branch taken; the offset added to the branch's own address.
 // - Decoded::waits: 16 for a divide; a wait for DIV and none for MOD.
 // - ShortInstruction::decode_short: LDI at nibble 10; JAL's offset unsigned.
@@ -31,6 +32,7 @@
 // - Place::after: the same place (stays_in_place); Normal for every mode.
 #![tactic(auto)]
 
+mod defaults;
 pub mod destinations;
 pub mod effect_table;
 mod encoding;
@@ -45,32 +47,33 @@ mod starts;
 mod waits;
 
 // The mode of an instruction: 4 bytes long, or 2.
-#[derive(Clone, Copy, Debug, PartialEq, Eq)]
+#[derive(Clone, Copy, Debug, Default, PartialEq, Eq)]
 pub enum Mode {
+    #[default]
     Normal,
     Short,
 }
 
 // An address and its mode.
-#[derive(Clone, Copy)]
+#[derive(Clone, Copy, Debug, Default, PartialEq, Eq)]
 pub struct Place {
     pub pc: u32,
     pub mode: Mode,
 }
 
-// What a program starts with: registers, address, mode, whether it runs in user mode, the feature word.
+// What a program starts with: registers, its first instruction's place, whether it runs in user mode, the feature word.
 #[derive(Clone, Copy)]
 pub struct Start {
     pub reg: [u32; 32],
-    pub pc: u32,
-    pub mode: Mode,
+    pub at: Place,
     pub user: bool,
     pub features: u32,
 }
 
 // A Normal instruction. Unknown holds the high and the low half of its word.
-#[derive(Clone, Copy)]
+#[derive(Clone, Copy, Default)]
 pub enum Instruction {
+    #[default]
     Nop,
     Ld { rd: u8, base: u8, offset: i16 },
     St { rd: u8, base: u8, offset: i16 },
@@ -149,7 +152,8 @@ impl ShortInstruction {
     pub const SIZE: u32 = 2;
 }
 
-// What a fetch brings: a Normal instruction, decoded already, or 16 bits.
+// What a fetch brings: a Normal instruction, decoded already, or 16 bits. It and Decoded are two enums, and not one over
+// the type of a Short instruction, as in the Rust (docs/DECISIONS.md).
 #[derive(Clone, Copy)]
 pub enum RawInstr {
     Normal(Instruction),
@@ -185,8 +189,9 @@ pub struct Mtsr {
     pub value: u32,
 }
 
-// What an instruction names: its two sources (R0 where it has none), how many, its destination, as ID/EX takes them over,
-// whether it loads or stores, the latency of a multiply or divide, a conditional branch's offset as a word.
+// What an instruction names: its two sources (R0 where it has none), how many, its destination, whether it loads or
+// stores, the latency of a multiply or divide, a conditional branch's offset as a word. The sources and their number are
+// ID/EX's own fields, which takes them over one by one, so no source is an option here.
 #[derive(Clone, Copy)]
 pub struct Operands {
     pub src_a: u8,
@@ -202,7 +207,7 @@ pub struct Operands {
 // The word that an instruction computes. `writes`: its destination gets a word;
 // `always_writes`: it asks for the write even where no destination is named. Flags, and no option: EX/MEM takes the word
 // over also where none is written, and with an option each use would spell out the 0 that then stands there.
-#[derive(Clone, Copy)]
+#[derive(Clone, Copy, Default)]
 pub struct AluResult {
     pub value: u32,
     pub writes: bool,
@@ -211,7 +216,7 @@ pub struct AluResult {
 
 // What an instruction asks of the memory: address, a store's word, width in bytes (0: no access), and whether it reads.
 // The fields are EX/MEM's own, which takes them over one by one, so a width of 0 is no option here either.
-#[derive(Clone, Copy)]
+#[derive(Clone, Copy, Default)]
 pub struct Access {
     pub mem_addr: u32,
     pub store_value: u32,
@@ -220,7 +225,7 @@ pub struct Access {
 }
 
 // What is left to the retirement: HALT, IRET, CPUID, an exception, MTSR's word.
-#[derive(Clone, Copy)]
+#[derive(Clone, Copy, Default)]
 pub struct Marks {
     pub halt: bool,
     pub iret: bool,

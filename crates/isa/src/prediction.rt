@@ -9,7 +9,7 @@ use crate::{Operands, Place};
 fn is_negative(w: u32) -> bool
     ensures { result ≡ is_negative w }
 {
-    w >= 0x8000_0000
+    w.cast_signed().is_negative()
 }
 
 impl Operands {

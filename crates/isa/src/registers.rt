@@ -37,7 +37,7 @@ pub fn write_reg(dest: Option<u8>, v: u32, reg: &mut [u32; 32])
     put_reg(k, v, reg);
 }
 
-// CPUID's two words.
+// CPUID's two words, where it is on. A flag and a word, and no option: the mark is an instruction's, the word the state's.
 #[tactic(auto, unfolding(crate::specs::Registers::write_cpuid))]
 pub fn write_cpuid(on: bool, features: u32, reg: &mut [u32; 32])
     ensures { reg.new ≡ write_cpuid on features reg.old }

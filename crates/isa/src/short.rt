@@ -4,7 +4,7 @@ ghost use Rattle.isa.specs.Short.{decode_short, decoded_of, low_bits, nibble};
 
 use crate::{Decoded, RawInstr, ShortInstruction};
 
-// Nibble `k` of a halfword, counted from the low end.
+// Nibble `k` of a halfword, counted from the low end. What `as` cuts is below 16; `try_from` would test that again.
 #[tactic(auto, unfolding(crate::specs::Short::nibble))]
 fn nibble(raw: u16, k: u32) -> u8
     requires { k < 4 }
@@ -17,7 +17,8 @@ fn nibble(raw: u16, k: u32) -> u8
 fn imm8_of(raw: u16) -> u8
     ensures { result ≡ raw % 256 }
 {
-    (raw % 256) as u8
+    let [_, low] = raw.to_be_bytes();
+    low
 }
 
 // The low 8 bits, signed.
@@ -28,13 +29,12 @@ fn imm8_signed(raw: u16) -> i8
     imm8_of(raw).cast_signed()
 }
 
-// The low 12 bits, signed. The library reads signed numbers of 8 and of 16 bits, and none of 12.
+// The low 12 bits, signed.
 #[tactic(auto, unfolding(crate::specs::Short::low_bits))]
 fn imm12_signed(raw: u16) -> i16
     ensures { result ≡ low_bits 11 raw }
 {
-    let x = (raw % 4096).cast_signed();
-    if x < 2048 { x } else { x - 4096 }
+    (raw << 4).cast_signed() >> 4
 }
 
 impl ShortInstruction {

@@ -2,7 +2,7 @@
 ghost use Rattle.std.specs.Prelude.{◌≡◌};
 ghost use Rattle.isa.specs.Machine.{zero_start};
 
-use crate::{Mode, Start};
+use crate::{Place, Start};
 
 impl Start {
     // Registers, address and feature word 0, Normal, supervisor.
@@ -12,8 +12,7 @@ impl Start {
     {
         Start {
             reg: [0u32; 32],
-            pc: 0,
-            mode: Mode::Normal,
+            at: Place::default(),
             user: false,
             features: 0,
         }

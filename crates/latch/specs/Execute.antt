@@ -9,7 +9,7 @@ use Rattle.latch.specs.Names.{Effect, Exception, ExMem, IdEx, MemWb, Mode, Place
 -- the effect of an exception, or e where there is none
 unfoldable pub raised_or : Option Exception → Effect → Effect
 raised_or None e = e
-raised_or (Some x) e = raises x
+raised_or (Some x) e = raises (Some x)
 
 -- an exception already in the latch comes first
 unfoldable pub effect_in : Bool → IdEx → ℕ → ℕ → Effect

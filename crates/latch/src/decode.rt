@@ -13,10 +13,7 @@ use isa::{Decoded, Operands, Place};
 fn is_used(dest: Option<u8>, a: u8, b: u8) -> bool
     ensures { result ≡ is_used dest a b }
 {
-    let Some(d) = dest else {
-        return false;
-    };
-    (d != 0) & ((d == a) | (d == b))
+    dest.is_some_and(|d| (d != 0) & ((d == a) | (d == b)))
 }
 
 impl IfId {

@@ -28,7 +28,7 @@ impl IdEx {
         ensures { result ≡ effect_in user self a b }
     {
         match self.exception {
-            Some(exception) => raises(exception),
+            Some(exception) => raises(Some(exception)),
             None => self.decoded.effect(user, self.pc, a, b),
         }
     }

@@ -6,7 +6,7 @@ ghost use Rattle.latch.specs.Forwarding.{mem_wb_holds};
 use crate::{ExMem, MemWb};
 use isa::registers::{PROCESSOR_NAME, read_reg};
 
-// CPUID's words for R1 and R2 over `v`, where it is on.
+// CPUID's words for R1 and R2 over `v`, where it is on: a flag and a word, as in isa's `write_cpuid`.
 #[tactic(auto, unfolding(crate::specs::Forwarding::cpuid_word))]
 fn cpuid_word(on: bool, features: u32, r: u8, v: u32) -> u32
     ensures { result ≡ cpuid_word on features r v }
@@ -62,8 +62,8 @@ impl ExMem {
     }
 }
 
-// The value of a register as EX sees it. What is older is read only where EX/MEM does not hold it. The latches, the
-// feature word and the registers come apart: callers hold them in two values, and would fill a struct for each call.
+// The value of a register as EX sees it. What is older is read only where EX/MEM does not hold it. The latches and
+// the feature word come apart: `Stages`, which has them, is of a crate above, and a struct would be filled for each call.
 #[tactic(auto, unfolding(crate::specs::Forwarding::forward_from, crate::specs::Forwarding::from_ex_mem))]
 pub fn operand(x: ExMem, w: MemWb, features: u32, reg: &[u32; 32], r: u8) -> u32
     ensures { result ≡ forward_from x w features reg.now r }

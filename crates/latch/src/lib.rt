@@ -46,13 +46,14 @@ mod retire;
 ghost use Rattle.std.specs.Prelude.{◌≡◌};
 ghost use Rattle.latch.specs.Latches.{empty_ex_mem, empty_id_ex, empty_if_id, empty_mem_wb};
 
-use isa::{Decoded, Exception, Instruction, Mode, Mtsr, RawInstr};
+use isa::{Decoded, Exception, Mode, Mtsr, RawInstr};
 
 // The flags of the latches (`valid`, `writeback`, `branch_taken`, a width of 0) are no options: a caller may hand in any
-// value beside a flag that is off, and it is tested, kept and compared (RULES 8.5, 19.2).
+// value beside a flag that is off, and it is tested, kept and compared (RULES 8.5, 19.2). `pc` and `mode` are
+// fields, and no `Place`, as in the Rust.
 
 // Between fetch and decode.
-#[derive(Clone, Copy)]
+#[derive(Clone, Copy, Default)]
 pub struct IfId {
     pub valid: bool,
     pub pc: u32,
@@ -61,7 +62,7 @@ pub struct IfId {
 }
 
 // Between decode and execute. `op_a` and `op_b` are the register values sampled at decode.
-#[derive(Clone, Copy)]
+#[derive(Clone, Copy, Default)]
 pub struct IdEx {
     pub valid: bool,
     pub pc: u32,
@@ -80,7 +81,7 @@ pub struct IdEx {
 }
 
 // Between execute and memory. `mem_size` is the width in bytes, 0 for no request.
-#[derive(Clone, Copy)]
+#[derive(Clone, Copy, Default)]
 pub struct ExMem {
     pub valid: bool,
     pub pc: u32,
@@ -106,7 +107,7 @@ pub struct ExMem {
 }
 
 // Between memory and retirement.
-#[derive(Clone, Copy)]
+#[derive(Clone, Copy, Default)]
 pub struct MemWb {
     pub valid: bool,
     pub pc: u32,
@@ -124,19 +125,14 @@ pub struct MemWb {
     pub mtsr: Option<Mtsr>,
 }
 
-// Each latch has an `invalid` of its own: a rule of the project has a function without self make each type's empty latch.
+// Each type's empty latch has a name beside `default`: a latch that is not valid is what its callers mean (RULES 8.4).
 impl IfId {
     // IF/ID at a start: invalid, with NOP at address 0 in Normal mode.
     #[tactic(auto, unfolding(crate::specs::Latches::empty_if_id))]
     pub fn invalid() -> IfId
         ensures { result ≡ empty_if_id }
     {
-        IfId {
-            valid: false,
-            pc: 0,
-            mode: Mode::Normal,
-            raw: RawInstr::Normal(Instruction::Nop),
-        }
+        IfId::default()
     }
 }
 
@@ -146,22 +142,7 @@ impl IdEx {
     pub fn invalid() -> IdEx
         ensures { result ≡ empty_id_ex }
     {
-        IdEx {
-            valid: false,
-            pc: 0,
-            mode: Mode::Normal,
-            decoded: Decoded::Normal(Instruction::Nop),
-            predicted_taken: false,
-            src_a: 0,
-            src_b: 0,
-            n_srcs: 0,
-            dest: None,
-            op_a: 0,
-            op_b: 0,
-            is_load: false,
-            is_store: false,
-            exception: None,
-        }
+        IdEx::default()
     }
 }
 
@@ -171,29 +152,7 @@ impl ExMem {
     pub fn invalid() -> ExMem
         ensures { result ≡ empty_ex_mem }
     {
-        ExMem {
-            valid: false,
-            pc: 0,
-            mode: Mode::Normal,
-            decoded: Decoded::Normal(Instruction::Nop),
-            dest: None,
-            writeback: false,
-            is_load: false,
-            is_store: false,
-            alu_result: 0,
-            store_value: 0,
-            mem_addr: 0,
-            mem_size: 0,
-            is_mem_read: false,
-            branch_taken: false,
-            branch_target: 0,
-            branch_new_mode: None,
-            halt: false,
-            iret: false,
-            cpuid: false,
-            exception: None,
-            mtsr: None,
-        }
+        ExMem::default()
     }
 }
 
@@ -203,21 +162,6 @@ impl MemWb {
     pub fn invalid() -> MemWb
         ensures { result ≡ empty_mem_wb }
     {
-        MemWb {
-            valid: false,
-            pc: 0,
-            mode: Mode::Normal,
-            dest: None,
-            writeback: false,
-            value: 0,
-            halt: false,
-            iret: false,
-            cpuid: false,
-            branch_taken: false,
-            branch_target: 0,
-            branch_new_mode: None,
-            exception: None,
-            mtsr: None,
-        }
+        MemWb::default()
     }
 }

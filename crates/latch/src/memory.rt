@@ -14,7 +14,7 @@ impl ExMem {
         self.is_load & (self.mem_size != 0)
     }
 
-    // A store that asks for memory.
+    // A store that asks for memory. One function for both, over the flag, would be no shorter.
     #[tactic(auto, unfolding(crate::specs::Memory::stores))]
     pub fn stores(self) -> bool
         ensures { result ≡ stores self }

@@ -19,7 +19,7 @@ fn retire_reg(dest: Option<u8>, v: u32, reg: &mut [u32; 32])
     reg[0] = 0;
 }
 
-// CPUID's words, and R0 back to 0.
+// CPUID's words, and R0 back to 0; `on` and `features` as in isa's `write_cpuid`.
 #[tactic(auto, unfolding(crate::specs::Retire::retire_cpuid, isa::specs::Registers::write_cpuid))]
 fn retire_cpuid(on: bool, features: u32, reg: &mut [u32; 32])
     ensures { reg.new ≡ retire_cpuid on features reg.old }

@@ -27,7 +27,7 @@ fn older_origin(w: MemWb, r: u8) -> Origin
     Origin::RegisterFile
 }
 
-// Where the value of a register comes from. The two latches come apart, as in forwarding.
+// Where the value of a register comes from. The two latches come apart, here and below, as in latch's `operand`.
 #[tactic(auto, unfolding(crate::specs::Origins::origin_from))]
 pub fn origin_of(x: ExMem, w: MemWb, r: u8) -> Origin
     ensures { result ≡ origin_from x w r }

@@ -6,7 +6,7 @@ use lib.ListN.{length}
 use mathlib.Core.Bool.{cond, true}
 use mathlib.Core.List.{List}
 use mathlib.Core.Path.{◌∙◌, ◌≡◌, ap, sym}
-use Rattle.std.specs.Prelude.{Err, Ok}
+use Rattle.std.specs.Prelude.{Err, Ok, Result, ⊤}
 use Rattle.std.specs.Result.{result_and}
 use Rattle.isa.proofs.Bools.{split}
 use Rattle.pipeline.specs.Start.{fresh}
@@ -15,6 +15,7 @@ use Rattle.runs.specs.Run.{checked_run, ran, refused_run, run_check}
 use Rattle.sheet.proofs.Limit.{by_check}
 use Rattle.sheet.specs.Sheet.{bad_length, limited_check, sheet_check}
 use Rattle.panel.specs.Claims.{AcceptedToo, AcceptedWithin, NeitherEightNorNine, PreviewHalted, SameResult}
+use Rattle.panel.specs.Inner.{high_check, long_check, over_check}
 use Rattle.panel.specs.Names.{BadLength, EndRefused, HighPreview, LongPreview, PipelineCpu, Ran, Refusal}
 use Rattle.panel.specs.Panel.{panel_check, previewed}
 
@@ -38,12 +39,12 @@ short sheet limit h = split (bad_length (length sheet))
     (λ a. rw (a, le-ltb 1280 (length sheet) h))
 
 -- the runner's refusal
-pub runners_refused : (sheet : List ℕ) (limit : ℕ) (r : Refusal) → length sheet ≤ 1280
+runners_refused : (sheet : List ℕ) (limit : ℕ) (r : Refusal) → length sheet ≤ 1280
     → limited_check sheet limit ≡ Err r → panel_check sheet limit ≡ Err r
 runners_refused sheet limit r h e = short sheet limit h ∙ rw e
 
 -- 9, where the runner accepts
-pub high : (sheet : List ℕ) (limit : ℕ) → length sheet ≤ 1280 → 10000 < limit → limited_check sheet limit ≡ Ok tt
+high : (sheet : List ℕ) (limit : ℕ) → length sheet ≤ 1280 → 10000 < limit → limited_check sheet limit ≡ Ok tt
     → panel_check sheet limit ≡ Err HighPreview
 high sheet limit h g e = short sheet limit h ∙ rw (e, lt-ltb 10000 limit g)
 
@@ -119,3 +120,37 @@ pub preview_halted : PreviewHalted
 preview_halted sheet t v len limit l e =
     let z = neither (fresh v) sheet l t limit (λ q. cc) (λ q. cc) in
     rw z (sheet_halted_lem sheet t v len limit l (sym (ap (λ (r : Ran). r.end) z) ∙ e))
+
+-- what the code tests first: where it refuses, the panel's check refuses so
+pub over_is : (sheet : List ℕ) (limit : ℕ) (r : Refusal) → over_check sheet limit ≡ Err r
+    → panel_check sheet limit ≡ Err r
+unfolding over_check long_check high_check panel_check
+over_is sheet limit r h = split (ltb 1280 (length sheet))
+    (λ a. split (bad_length (length sheet))
+    (λ b. rw (a, b) (rw (a, b) at h))
+    (λ b. rw (a, b) (rw (a, b) at h)))
+    (λ a. split (ltb 10000 limit)
+    (λ b. split (bad_length (length sheet))
+    (λ d. rw d (rw (a, b, bad_limited sheet limit d) at h))
+    (λ d. rw (a, b, d) (rw (a, b) at h)))
+    (λ b. let z : ◌≡◌ {A = Result ⊤ Refusal} (Ok tt) (Err r) = rw (a, b) at h in cc))
+
+-- and so of the whole call
+pub over_refused : (s : PipelineCpu) (sheet l t : List ℕ) (limit : ℕ) (r : Refusal) → over_check sheet limit ≡ Err r
+    → previewed s sheet l t limit ≡ refused_run r s
+over_refused s sheet l t limit r e = refused_is s sheet l t limit r (over_is sheet limit r e)
+
+-- where it accepts, neither bound is passed, and the code leaves every test to the runner
+pub not_over : (s : PipelineCpu) (sheet l t : List ℕ) (limit : ℕ) → over_check sheet limit ≡ Ok tt
+    → previewed s sheet l t limit ≡ ran s sheet l t limit
+unfolding over_check long_check high_check
+not_over s sheet l t limit e = split (ltb 1280 (length sheet))
+    (λ a. split (bad_length (length sheet))
+    (λ b. let z : ◌≡◌ {A = Result ⊤ Refusal} (Err BadLength) (Ok tt) = rw (a, b) at e in cc)
+    (λ b. let z : ◌≡◌ {A = Result ⊤ Refusal} (Err LongPreview) (Ok tt) = rw (a, b) at e in cc))
+    (λ a. split (ltb 10000 limit)
+    (λ b. by_check (limited_check sheet limit)
+    (λ d. let z : ◌≡◌ {A = Result ⊤ Refusal} (Err HighPreview) (Ok tt) = rw (a, b, d) at e in cc)
+    (λ r d. let z : ◌≡◌ {A = Result ⊤ Refusal} (Err r) (Ok tt) = rw (a, b, d) at e in cc))
+    (λ b. runners_is s sheet l t limit
+    (within sheet limit (ltb-false 1280 (length sheet) a) (ltb-false 10000 limit b))))

@@ -5,15 +5,15 @@
 // runner lent an empty table.
 #![tactic(auto)]
 
-ghost use Rattle.std.specs.Prelude.{◌≡◌, Err, IfErr, OnOk};
-ghost use Rattle.panel.specs.Panel.{panel_check, previewed};
-ghost use Rattle.sheet.specs.Sheet.{limited_check};
+ghost use Rattle.std.specs.Prelude.{◌≡◌};
+ghost use Rattle.panel.specs.Inner.{over_check};
+ghost use Rattle.panel.specs.Panel.{previewed};
 
 use pipeline::PipelineCpu;
 use refusal::Refusal;
 use runner::run;
 use runs::Ran;
-use sheet::End;
+use sheet::Inputs;
 use sheet::check::{bad_length, check_limited};
 
 // The length in bytes of the longest sheet.
@@ -23,10 +23,9 @@ const MAX_LENGTH: usize = 1_280;
 const MAX_LIMIT: u32 = 10_000;
 
 // The check of a sheet or a limit that is above the panel's; any other is left to the runner.
-#[tactic(auto, using(crate::proofs::Tests::high, crate::proofs::Tests::runners_refused, crate::proofs::Tests::within), unfolding(crate::specs::Panel::panel_check))]
+#[tactic(auto, unfolding(crate::specs::Inner::over_check, crate::specs::Inner::long_check, crate::specs::Inner::high_check))]
 fn check(sheet: &[u8], limit: u32) -> Result<(), Refusal>
-    ensures refused { IfErr result (λ r. panel_check sheet.now limit ≡ Err r) }
-    ensures left { OnOk result (panel_check sheet.now limit ≡ limited_check sheet.now limit) }
+    ensures { result ≡ over_check sheet.now limit }
 {
     let n = sheet.len();
     if n > MAX_LENGTH {
@@ -42,17 +41,14 @@ fn check(sheet: &[u8], limit: u32) -> Result<(), Refusal>
     Ok(())
 }
 
-// Runs a sheet from a state to its end, within the panel's bounds; `table` has the words of the special registers.
-#[tactic(auto, using(crate::proofs::Tests::refused_is, crate::proofs::Tests::runners_is), unfolding(runs::specs::Run::refused_run))]
-pub fn preview(state: PipelineCpu, sheet: &[u8], answers: &[u32], table: &[u32], limit: u32) -> Ran
-    ensures { result ≡ previewed state sheet.now answers.now table.now limit }
+// Runs a sheet from a state to its end, within the panel's bounds.
+#[tactic(auto, using(crate::proofs::Tests::not_over, crate::proofs::Tests::over_refused))]
+pub fn preview(state: PipelineCpu, inputs: Inputs<'_>) -> Ran
+    ensures { let given = inputs.entry in
+        result ≡ previewed state given.sheet.now given.answers.now given.table.now given.limit }
 {
-    if let Err(refusal) = check(sheet, limit) {
-        return Ran {
-            end: End::Refused(refusal),
-            ticks: 0,
-            state,
-        };
+    if let Err(refusal) = check(inputs.sheet, inputs.limit) {
+        return Ran::refused(refusal, state);
     }
-    run(state, sheet, answers, table, limit)
+    run(state, inputs)
 }

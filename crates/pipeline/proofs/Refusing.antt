@@ -1,8 +1,8 @@
 -- The refusals that the code computes are those of the definitions' tests. Assumes nothing.
-use mathlib.Core.Bool.{Bool, ◌&&◌, cond, false, true}
+use mathlib.Core.Bool.{Bool, ◌&&◌, cond, false, not, true}
 use mathlib.Core.Path.{◌∙◌, ◌≡◌, ap, refl, sym}
 use Rattle.std.specs.Bool.{then_some}
-use Rattle.std.specs.Prelude.{Err, None, Ok, Result, ⊤}
+use Rattle.std.specs.Prelude.{ℕ, Err, None, Ok, Option, Result, is_some, ⊤}
 use Rattle.latch.specs.Memory.{request_in}
 use Rattle.stages.specs.Advance.{awake}
 use Rattle.stages.specs.Counting.{count_idle, counter_full, unless_full}
@@ -13,11 +13,12 @@ use Rattle.stages.specs.Retire.{retire_stages}
 use Rattle.pipeline.specs.Advance.{move_of, next, resting}
 use Rattle.pipeline.specs.Ask.{ask, asks, fetch_at, fetch_wanted, want_fetch, want_origins, want_special, wanted}
 use Rattle.pipeline.specs.Inner.{tick_on}
-use Rattle.pipeline.specs.Names.{Counters, CounterFull, Faulty, Given, OutOfBounds, PipelineCpu, Refusal, Wanted}
+use Rattle.pipeline.specs.Names.{BadAnswer, Counters, CounterFull, Faulty, Given, OutOfBounds, PipelineCpu, Place}
+use Rattle.pipeline.specs.Names.{Refusal, Wanted}
 use Rattle.pipeline.specs.Parts.{retired}
 use Rattle.pipeline.specs.Refusals.{Tests, and_then, checked, pass, state_tests, test, verdict}
 use Rattle.pipeline.specs.Retire.{retire}
-use Rattle.pipeline.specs.Tick.{given_tests, taken, tests, tick, wanted_tests}
+use Rattle.pipeline.specs.Tick.{fits_offer, given_tests, ok_offer, same, taken, tests, tick, wanted_tests}
 
 -- Any list of tests c, before tests d: one that holds refuses, whatever stands behind; none leaves it to d.
 pub tests_refuse : {A : Type 0} (c d : Tests) (x : A) (r : Refusal) → checked c ≡ Err r
@@ -45,6 +46,13 @@ all_refuse c x r e = ap (λ (d : Tests). verdict d x) (sym (and_pass c)) ∙ tes
 pub all_pass : {A : Type 0} (c : Tests) (x : A) → checked c ≡ Ok tt → verdict c x ≡ Ok x
 unfolding verdict
 all_pass c x e = ap (λ (d : Tests). verdict d x) (sym (and_pass c)) ∙ tests_pass c pass x e
+
+-- 4, where 1 and 3 do not arise
+pub given_4 : (fetch : Option Place) (load : Bool) (q : Option ℕ) (t : Given) (k f b : Bool) → k ≡ ok_offer t.offer
+    → not k ≡ false → f ≡ fits_offer fetch t.offer → not f ≡ false → b ≡ same load (is_some t.answer) → not b ≡ true
+    → Err BadAnswer ≡ checked (given_tests fetch load q t)
+unfolding given_tests verdict
+given_4 fetch load q t k f b ek nk ef nf eb e = rw (sym ek, nk, sym ef, nf, sym eb, e)
 
 -- where 11, 12 and 13 do not apply no counter is full
 pub state_room : (f : Bool) (s : PipelineCpu) → checked (state_tests f s) ≡ Ok tt → counter_full s.counts ≡ false
@@ -121,6 +129,7 @@ module _ (s : PipelineCpu) (e : awake s.stages ≡ false) where
   rest_next t c ec r = rw (ec, r, e)
 
   -- and nothing is wanted
-  pub rest_wants : record { fetch = None; request = None; special = None; origins = None } ≡ wanted s
+  pub rest_wants : (w : Wanted) → w.fetch ≡ None → w.request ≡ None → w.special ≡ None → w.origins ≡ None → w ≡ wanted s
   unfolding wanted asks want_origins request_in
-  rest_wants = rw (rest_fetch, rest_special, e)
+  rest_wants w ef eq es eo =
+      (λ i. record { fetch = ef i; request = eq i; special = es i; origins = eo i }) ∙ rw (rest_fetch, rest_special, e)

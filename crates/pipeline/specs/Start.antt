@@ -8,8 +8,8 @@ unfoldable pub fresh : Start → PipelineCpu
 fresh v = record {
   reg = set v.reg 0 0;
   stages = record {
-    fetch_at = record { pc = v.pc; mode = v.mode };
-    retire_at = record { pc = v.pc; mode = v.mode };
+    fetch_at = v.at;
+    retire_at = v.at;
     running = true;
     user = v.user;
     features = v.features;

@@ -30,7 +30,7 @@ fn origins_in(step: Move, l: Stages) -> Option<Origins>
 }
 
 impl PipelineCpu {
-    // What a tick that moves will want.
+    // What a tick that moves will want. `moves` and `room` are no struct's, as in the tick.
     fn wants(self) -> Wanted
         requires moves { awake self.stages ≡ true }
         requires room { counter_full self.counts ≡ false }
@@ -40,10 +40,8 @@ impl PipelineCpu {
         let s = self.stages.retire(&mut reg);
         if s.waits_on() {
             return Wanted {
-                fetch: None,
                 request: s.ex_mem.request(),
-                special: None,
-                origins: None,
+                ..Wanted::default()
             };
         }
         let plan = s.plan(&reg);
@@ -63,11 +61,6 @@ impl PipelineCpu {
         if self.stages.is_awake() {
             return Ok(self.wants());
         }
-        Ok(Wanted {
-            fetch: None,
-            request: None,
-            special: None,
-            origins: None,
-        })
+        Ok(Wanted::default())
     }
 }

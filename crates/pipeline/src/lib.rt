@@ -47,7 +47,8 @@ pub struct Given {
     pub special: Option<Option<u32>>,
 }
 
-// The state handed back by a tick: the next one, or the very state given where the tick was refused.
+// The state handed back by a tick: the next one, or the very state given where the tick was refused. It is no `Result`,
+// since a refused tick hands a state back too.
 #[derive(Clone, Copy)]
 pub struct Ticked {
     pub state: PipelineCpu,
@@ -56,7 +57,7 @@ pub struct Ticked {
 
 // What a tick will want: the place to fetch from, a load or store, a special register; and the origins that its
 // execution will pass on.
-#[derive(Clone, Copy)]
+#[derive(Clone, Copy, Default)]
 pub struct Wanted {
     pub fetch: Option<Place>,
     pub request: Option<Request>,

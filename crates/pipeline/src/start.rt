@@ -3,7 +3,7 @@ ghost use Rattle.std.specs.Prelude.{◌≡◌};
 ghost use Rattle.pipeline.specs.Start.{fresh};
 
 use crate::PipelineCpu;
-use isa::{Place, Start};
+use isa::Start;
 use latch::{ExMem, IdEx, IfId, MemWb};
 use stages::{Counters, Stages};
 
@@ -15,15 +15,11 @@ impl PipelineCpu {
     {
         let mut reg = v.reg;
         reg[0] = 0;
-        let at = Place {
-            pc: v.pc,
-            mode: v.mode,
-        };
         PipelineCpu {
             reg,
             stages: Stages {
-                fetch_at: at,
-                retire_at: at,
+                fetch_at: v.at,
+                retire_at: v.at,
                 running: true,
                 user: v.user,
                 features: v.features,
@@ -34,13 +30,7 @@ impl PipelineCpu {
                 ex_cycles_left: 0,
                 ex_armed: false,
             },
-            counts: Counters {
-                cycles: 0,
-                running_cycles: 0,
-                instructions_executed: 0,
-                stall_cycles: 0,
-                flush_events: 0,
-            },
+            counts: Counters::default(),
         }
     }
 }

@@ -7,7 +7,6 @@ ghost use Rattle.pipeline.specs.Inner.{Retired, tick_on};
 ghost use Rattle.pipeline.specs.Tick.{taken, tick, ticked};
 
 use crate::{Given, PipelineCpu, Ticked};
-use isa::{Instruction, RawInstr};
 use refusal::Refusal;
 use stages::{Move, Stages, Taken};
 
@@ -19,13 +18,15 @@ impl Given {
         ensures { result ≡ taken self }
     {
         Taken {
-            answer: self.answer.unwrap_or(0),
-            raw: self.offer.unwrap_or(RawInstr::Normal(Instruction::Nop)),
+            answer: self.answer.unwrap_or_default(),
+            raw: self.offer.unwrap_or_default(),
             special: self.special,
         }
     }
 }
 
+// `room` and `moves` stand in the contracts and in no struct of a checked state: with one `check` would promise two facts
+// in place of an equation, and each caller would take it apart again.
 impl PipelineCpu {
     // A tick that moves nothing.
     fn tick_resting(self, t: Given) -> Result<PipelineCpu, Refusal>

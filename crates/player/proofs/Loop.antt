@@ -197,7 +197,7 @@ module _ {sheet l table : List ℕ} {limit : ℕ} {v : Start} {rs : List ℕ} {a
 -- before the first turn
 pub begins : (sheet l table : List ℕ) (limit : ℕ) (v : Start) (rs : List ℕ) (slots : List Slot)
     → rs ≡ (arch_with v l).reg → All (IsOwn sheet) slots
-    → Holds sheet l table limit v rs (record { pc = v.pc; mode = v.mode }) slots 0 0
+    → Holds sheet l table limit v rs v.at slots 0 0
 unfolding unrefused_play reported later arch_with arch_of
 begins sheet l table limit v rs slots e k =
     let g = program_of (sheet_source sheet table) v in
@@ -211,5 +211,5 @@ begins sheet l table limit v rs slots e k =
       kept = k;
       same = (λ j. record { end = q.end; values = values_of v q.arch; done = a j; used = b j })
           ∙ ap (λ (x : Play). later v 0 0 x) (λ j. play g (y j) false
-          (record { reg = sym e j; pc = v.pc; mode = v.mode; answers = l; requests = [] }));
+          (record { reg = sym e j; pc = v.at.pc; mode = v.at.mode; answers = l; requests = [] }));
     }

@@ -1,11 +1,12 @@
 -- A play is the one-at-a-time machine. Assumes nothing.
 use Prim.Native.Nat.{◌+◌, ◌≤◌, suc, zero, ℕ}
 use lib.ListN.{drop, length}
-use mathlib.Core.Bool.{Bool, ◌&&◌, ◌||◌, cond, false, false≢true, not, true}
+use mathlib.Core.Bool.{Bool, ◌&&◌, ◌||◌, cond, false, false≢true, not, not-not, true}
 use mathlib.Core.List.{List, [], ◌∷◌}
 use mathlib.Core.Path.{◌∙◌, ◌≡◌, ap, refl, subst, sym}
 use native.Mathlib.Omega.{arith}
-use Rattle.isa.proofs.Bools.{or_r, split}
+use Rattle.std.proofs.lemmas.Bool.{or_parts}
+use Rattle.isa.proofs.Bools.{split}
 use Rattle.isa.proofs.Machine.{did_next, isa_goes, step}
 use Rattle.isa.specs.Machine.{Arch, Machine, Program, effect_at, instruction_at, is_barred, is_empty, machine}
 use Rattle.isa.specs.Machine.{rest, step_by, stops_at}
@@ -20,6 +21,11 @@ pub play_halted : (g : Program) (n : ℕ) (w : Arch) → play g n true w ≡ end
 unfolding play
 play_halted g zero w = refl
 play_halted g (suc n) w = refl
+
+play_stops : (g : Program) (n : ℕ) (w : Arch) → stops_at g (instruction_at g w) w ≡ true
+    → play g (suc n) false w ≡ ended (cond (is_barred (effect_at g (instruction_at g w) w)) PlayStopped PlayLoads) w
+unfolding play play_by
+play_stops g n w b = rw b
 
 play_does : (g : Program) (n : ℕ) (w : Arch) → stops_at g (instruction_at g w) w ≡ false
     → play g (suc n) false w
@@ -39,10 +45,6 @@ unfolding rest
 rest_drop [] zero = refl
 rest_drop [] (suc u) = refl
 rest_drop (x ∷ l) u = refl
-
-not_not : (b : Bool) → not (not b) ≡ b
-not_not true = refl
-not_not false = refl
 
 -- what stops the machine and is not barred is a load with no answer left
 dry : (a b c : Bool) → (a || (b && c)) ≡ true → a ≡ false → (b ≡ true) × (c ≡ true)
@@ -158,9 +160,9 @@ module _ (g : Program) (w₀ : Arch) where
       q y in (
         z.0,
         add_more n k z.0 i _ m.arch.answers
-            (or_r (is_barred (effect_at g i m.arch)) _ b)
+            (or_parts (is_barred (effect_at g i m.arch)) _ b).1
             (subst (λ (c : Bool). On n (suc k) z.0 (play g n c (step_by g i m.arch))
-            (step_by g i m.arch).answers) (not_not (effect_at g i m.arch).marks.halt) z.1),
+            (step_by g i m.arch).answers) (not-not (effect_at g i m.arch).marks.halt) z.1),
       )
 
   -- the play from the machine that has done k instructions
@@ -232,6 +234,6 @@ passes g w N d m (suc j) k e =
     let q : play g (suc j + m) (not (machine g w k).runs) a
     ≡ more (instruction_at g a) (play g (j + m) (not (machine g w (suc k)).runs) (machine g w (suc k)).arch) =
     (λ i. play g (y i) (not (x.runs i)) a) ∙ play_does g (j + m) a x.fine
-    ∙ (λ i. more (instruction_at g a) (play g (j + m) (sym (ap not x.on ∙ not_not h) i) (sym x.to i))) in
+    ∙ (λ i. more (instruction_at g a) (play g (j + m) (sym (ap not x.on ∙ not-not h) i) (sym x.to i))) in
     subst (λ (p : Play). Passes g w N m (suc j) p) (sym q)
     (pass_more g w N m j (instruction_at g a) _ (passes g w N d m j (suc k) (omega arith)))

@@ -15,8 +15,7 @@ use Rattle.player.specs.Player.{Play, loads_in, play, unrefused_play, values_of}
 -- the slot of an instruction at an address and mode
 unfoldable pub slot_of : Decoded → ℕ → Mode → Slot
 slot_of i p m = record {
-  pc = p;
-  mode = m;
+  at = record { pc = p; mode = m };
   instr = i;
   src_a = (operands_of i).src_a;
   src_b = (operands_of i).src_b;
@@ -30,12 +29,12 @@ slot_at sheet p m = slot_of (decoded_of (offer_at sheet p m)) p m
 
 -- a slot holds what the sheet offers at its own address and mode
 unfoldable pub IsOwn : List ℕ → Slot → Type 0
-IsOwn sheet s = s ≡ slot_at sheet s.pc s.mode
+IsOwn sheet s = s ≡ slot_at sheet s.at.pc s.at.mode
 
 -- what a slot's instruction does with the registers; the special register that it asks for is open
 unfoldable pub open_in : Bool → Slot → List ℕ → Effect
 open_in user s rs =
-    effect_of user s.instr s.pc (read_reg rs s.src_a) (read_reg rs s.src_b)
+    effect_of user s.instr s.at.pc (read_reg rs s.src_a) (read_reg rs s.src_b)
 
 -- the same, with what a table says of that register
 unfoldable pub effect_in : Bool → List ℕ → Slot → List ℕ → Effect
@@ -57,7 +56,7 @@ next_of e at = record
 -- a start's values, with these registers, address and mode
 unfoldable pub values_at : Start → List ℕ → Place → Start
 values_at v rs at =
-    record { reg = rs; pc = at.pc; mode = at.mode; user = v.user; features = v.features }
+    record { reg = rs; at = at; user = v.user; features = v.features }
 
 -- what is reported where so many instructions were done and answers used before
 unfoldable pub later : Start → ℕ → ℕ → Play → Played

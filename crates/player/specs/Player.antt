@@ -42,7 +42,7 @@ loads_in (i ∷ l) = bit (operands_of i).is_load + loads_in l
 
 -- a start's values, with the machine's registers, address and mode
 unfoldable pub values_of : Start → Arch → Start
-values_of v w = record { reg = w.reg; pc = w.pc; mode = w.mode; user = v.user; features = v.features }
+values_of v w = record { reg = w.reg; at = record { pc = w.pc; mode = w.mode }; user = v.user; features = v.features }
 
 -- what is reported of it
 unfoldable pub reported : Start → Play → Played

@@ -10,7 +10,7 @@ use Rattle.player.specs.Player.{played}
 unfoldable pub seen : ℕ → Played → PlayerEnd × List ℕ
 seen r p = (
   p.end,
-  p.done ∷ p.used ∷ p.values.pc ∷ slice_index p.values.reg 0 ∷ slice_index p.values.reg r ∷ [],
+  p.done ∷ p.used ∷ p.values.at.pc ∷ slice_index p.values.reg 0 ∷ slice_index p.values.reg r ∷ [],
 )
 
 -- a sheet's play with a limit, load answers and no special register, from the start with zeros
@@ -20,14 +20,13 @@ row sheet limit answers r = seen r (played zero_start sheet answers [] limit)
 -- the same in user mode
 unfoldable pub user_start : Start
 user_start =
-    record { reg = zero_start.reg; pc = 0; mode = zero_start.mode; user = true; features = 0 }
+    record { reg = zero_start.reg; at = zero_start.at; user = true; features = 0 }
 
 -- the same with 9 in R0 and 5 in R1
 unfoldable pub nine_start : Start
 nine_start = record {
   reg = 9 ∷ 5 ∷ replicate 30 0;
-  pc = 0;
-  mode = zero_start.mode;
+  at = zero_start.at;
   user = zero_start.user;
   features = 0;
 }

@@ -16,12 +16,14 @@ mod step;
 
 use crate::slots::{SLOTS, slot_in};
 use crate::step::{is_barred, next, write};
-use isa::{Decoded, Effect, Mode, Place, Start};
+use isa::{Decoded, Effect, Place, Start};
 use refusal::Refusal;
+use sheet::Inputs;
 use sheet::answers::{answer_at, used_after};
 use sheet::check::check_limited;
 
-// How a play ends.
+// How a play ends. Refused is one of these as it is one of a run's; RULES 23.2 has one end more than 18.2, stopped, so
+// this list is apart from `sheet::End`.
 #[derive(Clone, Copy, Debug, PartialEq, Eq)]
 pub enum PlayerEnd {
     Halted,
@@ -54,11 +56,12 @@ impl Played {
     }
 }
 
-// The instruction of an address and mode, decoded, with its sources and destination, and whether it loads.
+// The instruction of a place, decoded, with its sources and destination, and whether it loads. Of its operands a play
+// reads no more than these; with all of `Operands` a slot is larger, and a play of one HALT, which has 512 to set up, takes
+// some 800 ns and not 500.
 #[derive(Clone, Copy)]
 pub struct Slot {
-    pub pc: u32,
-    pub mode: Mode,
+    pub at: Place,
     pub instr: Decoded,
     pub src_a: u8,
     pub src_b: u8,
@@ -94,24 +97,23 @@ fn value_of(loads: bool, e: Effect, answers: &[u32], used: usize) -> u32
 fn values_at(start: Start, reg: [u32; 32], at: Place) -> Start
     ensures { result ≡ values_at start reg at }
 {
-    Start {
-        reg,
-        pc: at.pc,
-        mode: at.mode,
-        ..start
-    }
+    Start { reg, at, ..start }
 }
 
 // The turns of a play that was not refused before its first.
-fn turns(start: Start, sheet: &[u8], answers: &[u32], table: &[u32], limit: u32) -> Played
-    ensures { result ≡ unrefused_play start sheet.now answers.now table.now limit }
+fn turns(start: Start, inputs: Inputs<'_>) -> Played
+    ensures { let given = inputs.entry in
+        result ≡ unrefused_play start given.sheet.now given.answers.now given.table.now given.limit }
 {
+    let Inputs {
+        sheet,
+        answers,
+        table,
+        limit,
+    } = inputs;
     let mut reg = start.reg;
     reg[0] = 0;
-    let mut at = Place {
-        pc: start.pc,
-        mode: start.mode,
-    };
+    let mut at = start.at;
     let mut slots = [Slot::at(sheet, at); SLOTS];
     // The count is kept, and not the answers left, since the report has it.
     let mut used: usize = 0;
@@ -133,13 +135,14 @@ fn turns(start: Start, sheet: &[u8], answers: &[u32], table: &[u32], limit: u32)
     Played::new(PlayerEnd::Spent, values_at(start, reg, at), limit, used)
 }
 
-// Plays a sheet from a start's values to its end; `table` has the words of the special registers.
+// Plays a sheet from a start's values to its end.
 #[tactic(auto, unfolding(crate::specs::Player::played, crate::specs::Player::checked_play, crate::specs::Player::refused_play))]
-pub fn play(start: Start, sheet: &[u8], answers: &[u32], table: &[u32], limit: u32) -> Played
-    ensures { result ≡ played start sheet.now answers.now table.now limit }
+pub fn play(start: Start, inputs: Inputs<'_>) -> Played
+    ensures { let given = inputs.entry in
+        result ≡ played start given.sheet.now given.answers.now given.table.now given.limit }
 {
-    match check_limited(sheet, limit) {
-        Ok(()) => turns(start, sheet, answers, table, limit),
+    match check_limited(inputs.sheet, inputs.limit) {
+        Ok(()) => turns(start, inputs),
         Err(e) => Played::new(PlayerEnd::Refused(e), start, 0, 0),
     }
 }

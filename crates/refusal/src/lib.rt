@@ -37,7 +37,7 @@ pub enum Refusal {
 }
 
 impl Refusal {
-    // Its number.
+    // Its number. `as` alone reads the number of an enum's variant.
     #[tactic(auto, unfolding(crate::specs::Number::number_of))]
     pub fn number(self) -> u32
         ensures { result ≡ number_of self }

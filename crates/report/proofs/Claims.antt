@@ -127,6 +127,7 @@ unfolding number_of line value decimal digits_in end_line register_line register
 claims = record {
   short = short;
   short_refusal = λ r sheet. short_refusal_lem r.end sheet r.state.stages.mem_wb;
+  any_number = line_length;
   example = λ l c k. refl;
   most = refl;
   refused = refl;

@@ -1,5 +1,5 @@
 -- What is claimed of the texts beside the equations of the functions that write them.
-use Rattle.std.specs.Prelude.{codes, ◌≤◌, ℕ, length, replicate, set, List, [], ◌≡◌}
+use Rattle.std.specs.Prelude.{codes, ◌+◌, ◌≤◌, ℕ, length, replicate, set, List, [], ◌≡◌}
 use Rattle.report.specs.Ascii.{line}
 use Rattle.report.specs.Names.{BadRegister, EndRefused, Faulty, Halted, MemWb, Ran, Stages}
 use Rattle.report.specs.Refusal.{refusal_by, refusal_of}
@@ -27,6 +27,8 @@ pub record Claims : Type 0 where
   -- a buffer of 4,096 bytes holds every text whole
   pub short : (r : Ran) → length (report_text r) ≤ 1522
   pub short_refusal : (r : Ran) (sheet : List ℕ) → length (refusal_of r sheet) ≤ 139
+  -- a line with any number, also with one that is no refusal's
+  pub any_number : (name : List ℕ) (n : ℕ) → length (line name n) ≤ length name + 22
   -- the report of RULES 22.1's row with ADDI, MUL and HALT, whatever the latches and the two other counters hold
   pub example : (l : Stages) (c k : ℕ) → report_text (example_ran l c k)
       ≡ codes "end halted\nticks 9\nretired 3\nstalls 2\nflushes 0\nR3 7\nR4 49\n"

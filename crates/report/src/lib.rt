@@ -20,6 +20,7 @@ use crate::reasons::put_refusal;
 use runs::Ran;
 
 // The text at the start of a buffer, `len` bytes of it. What does not fit is cut off at the buffer's end.
+// The library's `Cursor` has both fields, but doesn't promise that `write` stays in that buffer; `InlineText` owns one.
 #[derive(Drop)]
 struct Text<'a> {
     out: &'a mut [u8],

@@ -33,6 +33,7 @@ pub(crate) fn put_counts(text: &mut Text, ticks: u32, counts: &Counters)
 }
 
 // A register with its value, unless that is 0.
+// `as`, since no `From` leads from `usize` to 64 bits; over a `zip` with numbers of 64 bits the proof did not close.
 #[tactic(auto, using(crate::proofs::Put::put_both, crate::proofs::Put::put_nothing), unfolding(crate::specs::Text::register_line, crate::specs::Ascii::line))]
 fn put_register(text: &mut Text, r: usize, value: u32)
     ensures { Puts text.old (register_line r value) text.new }

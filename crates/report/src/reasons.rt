@@ -11,10 +11,10 @@ use refusal::Refusal;
 use sheet::check::{MAX_LENGTH, first_refused};
 use sheet::{End, Record};
 
-// How many records the longest sheet has.
+// How many records the longest sheet has. `as`, since a constant's value can't call `try_from`.
 const MAX_RECORDS: u32 = (MAX_LENGTH / Record::SIZE) as u32;
 
-// The digit of the lowest four bits.
+// The digit of the lowest four bits. What `as` cuts is an ASCII letter; `try_from` would test that again.
 #[tactic(auto, unfolding(crate::specs::Refusal::hex_digit))]
 fn hex_digit(n: u32) -> u8
     ensures { result ≡ hex_digit n }

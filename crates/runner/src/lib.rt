@@ -24,26 +24,12 @@ use isa::{Instruction, Place, RawInstr};
 use pipeline::PipelineCpu;
 use refusal::Refusal;
 use runs::Ran;
-use sheet::End;
 use sheet::check::check_limited;
 use sheet::offer::offer_at;
 use sheet::specials::special_at;
 use sheet::turns::turn_by;
+use sheet::{End, Inputs};
 use stages::{Move, Taken};
-
-// What a run is offered from: a sheet, and a table of special registers.
-#[derive(Clone, Copy)]
-struct Source<'a> {
-    sheet: &'a [u8],
-    table: &'a [u32],
-}
-
-// What a tick takes in that is given nothing; a NOP stands for an instruction, and is not looked at.
-const NOTHING: Taken = Taken {
-    answer: 0,
-    raw: RawInstr::Normal(Instruction::Nop),
-    special: None,
-};
 
 // The answer that a tick takes in, the first of those left where it loads, and those left behind it.
 #[tactic(auto, unfolding(isa::specs::Machine::first, isa::specs::Machine::rest, runs::specs::Run::left_after))]
@@ -57,41 +43,48 @@ fn next_answer<'l>(state: &PipelineCpu, left: &'l [u32]) -> (u32, &'l [u32])
     }
 }
 
-impl Source<'_> {
-    // What the sheet offers a fetch.
-    fn raw(self, fetch: Option<Place>) -> RawInstr
-        ensures { result ≡ option_map_or (λ at. offer_at self.entry.sheet.now at.pc at.mode) fetch (RawNormal Nop) }
-    {
-        fetch.map_or(NOTHING.raw, |at| offer_at(self.sheet, at))
-    }
+// What a sheet offers a fetch.
+fn raw(sheet: &[u8], fetch: Option<Place>) -> RawInstr
+    ensures { result ≡ option_map_or (λ at. offer_at sheet.now at.pc at.mode) fetch (RawNormal Nop) }
+{
+    fetch.map(|at| offer_at(sheet, at)).unwrap_or_default()
+}
 
-    // A tick that is given what it asks for: by the sheet what it fetches, by the table a special register, and the
-    // first of the answers left. It gives those left behind it.
-    fn tick<'l>(self, state: &mut PipelineCpu, reg: &mut [u32; 32], left: &'l [u32]) -> &'l [u32]
-        requires moves { awake state.old.stages ≡ true }
-        requires room { counter_full state.old.counts ≡ false }
-        ensures state { let before = joined reg.old state.old in
-            joined reg.new state.new
-            ≡ next before (taken (reply (sheet_source self.entry.sheet.now self.entry.table.now) (first left.now) before)) }
-        ensures left { result.now ≡ left_after state.old left.now }
-    {
-        let (answer, left) = next_answer(state, left);
-        let s = state.stages.retire(reg);
-        if s.waits_on() {
-            state.stages = s.wait(Taken { answer, ..NOTHING });
-            state.counts = state.counts.count(s.mem_wb.valid, Move::KeepWaiting);
-            return left;
-        }
-        let plan = s.plan(reg);
-        let taken = Taken {
+// A tick that is given what it asks for: by the sheet what it fetches, by the table a special register, and the first of
+// the answers left. It gives those left behind it. `moves` and `room` are no struct's, as in pipeline's tick.
+fn tick<'l>(
+    state: &mut PipelineCpu,
+    reg: &mut [u32; 32],
+    inputs: Inputs<'_>,
+    left: &'l [u32],
+) -> &'l [u32]
+    requires moves { awake state.old.stages ≡ true }
+    requires room { counter_full state.old.counts ≡ false }
+    ensures state { let given = inputs.entry in
+        let before = joined reg.old state.old in
+        joined reg.new state.new
+        ≡ next before (taken (reply (sheet_source given.sheet.now given.table.now) (first left.now) before)) }
+    ensures left { result.now ≡ left_after state.old left.now }
+{
+    let (answer, left) = next_answer(state, left);
+    let s = state.stages.retire(reg);
+    if s.waits_on() {
+        state.stages = s.wait(Taken {
             answer,
-            raw: self.raw(s.fetches(plan).then_some(plan.place)),
-            special: special_at(self.table, plan.inquiry),
-        };
-        state.stages = s.advance(plan, taken, reg);
-        state.counts = state.counts.count(s.mem_wb.valid, plan.step);
-        left
+            ..Taken::default()
+        });
+        state.counts = state.counts.count(s.mem_wb.valid, Move::KeepWaiting);
+        return left;
     }
+    let plan = s.plan(reg);
+    let taken = Taken {
+        answer,
+        raw: raw(inputs.sheet, s.fetches(plan).then_some(plan.place)),
+        special: special_at(inputs.table, plan.inquiry),
+    };
+    state.stages = s.advance(plan, taken, reg);
+    state.counts = state.counts.count(s.mem_wb.valid, plan.step);
+    left
 }
 
 // How a turn below the limit ends the run, if it does.
@@ -111,20 +104,20 @@ fn next_turn(state: &PipelineCpu, left: &[u32]) -> Option<End>
 
 // The turns of a run that was not refused before its first.
 #[tactic(auto, using(crate::proofs::Loop::begins, runs::proofs::Turns::turn_ticks))]
-fn play(mut state: PipelineCpu, source: Source<'_>, answers: &[u32], limit: u32) -> Ran
-    requires { Ready source.sheet.now state }
-    ensures { result ≡
-        reported (play (sheet_source source.entry.sheet.now source.entry.table.now) limit answers.now state) }
+fn play(mut state: PipelineCpu, inputs: Inputs<'_>) -> Ran
+    requires { Ready inputs.sheet.now state }
+    ensures { let given = inputs.entry in
+        result ≡ reported (play (sheet_source given.sheet.now given.table.now) given.limit given.answers.now state) }
 {
     // The registers are held apart from the state: left in it they make a tick half as long again.
     let mut reg = state.reg;
-    let mut left = answers;
-    for ticks in 0..limit {
+    let mut left = inputs.answers;
+    for ticks in 0..inputs.limit {
         if let Some(end) = next_turn(&state, left) {
             state.reg = reg;
             return Ran { end, ticks, state };
         }
-        left = source.tick(&mut state, &mut reg, left);
+        left = tick(&mut state, &mut reg, inputs, left);
     }
     state.reg = reg;
     let end = if state.stages.running {
@@ -134,7 +127,7 @@ fn play(mut state: PipelineCpu, source: Source<'_>, answers: &[u32], limit: u32)
     };
     Ran {
         end,
-        ticks: limit,
+        ticks: inputs.limit,
         state,
     }
 }
@@ -151,17 +144,14 @@ fn check(state: PipelineCpu, sheet: &[u8], limit: u32) -> Result<(), Refusal>
     Ok(())
 }
 
-// Runs a sheet from a state to its end; `table` has the words of the special registers.
-#[tactic(auto, using(crate::proofs::Loop::ready), unfolding(runs::specs::Run::ran, runs::specs::Run::checked_run, runs::specs::Run::refused_run))]
-pub fn run(state: PipelineCpu, sheet: &[u8], answers: &[u32], table: &[u32], limit: u32) -> Ran
-    ensures { result ≡ ran state sheet.now answers.now table.now limit }
+// Runs a sheet from a state to its end.
+#[tactic(auto, using(crate::proofs::Loop::ready), unfolding(runs::specs::Run::ran, runs::specs::Run::checked_run))]
+pub fn run(state: PipelineCpu, inputs: Inputs<'_>) -> Ran
+    ensures { let given = inputs.entry in
+        result ≡ ran state given.sheet.now given.answers.now given.table.now given.limit }
 {
-    if let Err(refusal) = check(state, sheet, limit) {
-        return Ran {
-            end: End::Refused(refusal),
-            ticks: 0,
-            state,
-        };
+    if let Err(refusal) = check(state, inputs.sheet, inputs.limit) {
+        return Ran::refused(refusal, state);
     }
-    play(state, Source { sheet, table }, answers, limit)
+    play(state, inputs)
 }

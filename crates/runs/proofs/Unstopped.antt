@@ -9,7 +9,8 @@ use mathlib.Core.Path.{◌∙◌, ◌≡◌, ap, refl, sym}
 use native.Mathlib.Omega.{arith}
 use Rattle.accuracy.proofs.Inv.{Live, Mw, Xm}
 use Rattle.accuracy.proofs.Path.{eff_of, ld_at, mw_at, xm_at}
-use Rattle.isa.proofs.Bools.{and_r, both_r, or_l, or_r, split, un_not}
+use Rattle.std.proofs.lemmas.Bool.{and_parts, not-false, or_parts}
+use Rattle.isa.proofs.Bools.{and_r, split}
 use Rattle.isa.proofs.Machine.{did_next, did_walk, walk}
 use Rattle.isa.specs.Machine.{Arch, Program, effect_at, instruction_at, is_barred, is_empty, machine, stops_at}
 use Rattle.isa.specs.Operands.{operands_of}
@@ -36,7 +37,7 @@ want_by false l e = (refl, e)
 want_is : (s : PipelineCpu) → want_load s.stages ≡ true
     → (halts s.stages.mem_wb ≡ false) × ((s.stages.ex_mem.valid && loads s.stages.ex_mem) ≡ true)
 unfolding want_load loads_in retire retire_stages count_retired
-want_is s e = want_by (halts s.stages.mem_wb) s.stages.ex_mem (both_r (awake s.stages) _ e)
+want_is s e = want_by (halts s.stages.mem_wb) s.stages.ex_mem (and_parts (awake s.stages) _ e).1
 
 module _ (prog : Program) (w : Arch) where
   -- the machine's path, with no stopping
@@ -62,14 +63,14 @@ module _ (prog : Program) (w : Arch) where
     -- none is barred
     fine_bar : (k : ℕ) → k < N → is_barred (effect_at prog (instruction_at prog (W k)) (W k)) ≡ false
     unfolding stops_at
-    fine_bar k l = or_l _ _ (fine k l)
+    fine_bar k l = (or_parts _ _ (fine k l)).0
 
     -- a load among them has an answer
     fine_load : (k : ℕ) → k < N → (operands_of (instruction_at prog (W k))).is_load ≡ true
         → is_empty (W k).answers ≡ false
     unfolding stops_at
     fine_load k l e =
-        and_r _ _ (or_r (is_barred (effect_at prog (instruction_at prog (W k)) (W k))) _ (fine k l)) e
+        and_r _ _ (or_parts (is_barred (effect_at prog (instruction_at prog (W k)) (W k))) _ (fine k l)).1 e
 
     -- MEM/WB holds nothing barred
     mw_fine : (l : MemWb) (t k n : ℕ) → Mw prog w t l k n → k < N → is_faulty l ≡ false
@@ -89,7 +90,7 @@ module _ (prog : Program) (w : Arch) where
     last_halt : (k : ℕ) → suc k ≡ N → (effect_at prog (instruction_at prog (W k)) (W k)).marks.halt ≡ true
     last_halt k e =
         let x = did_next prog w N did k (omega arith) in
-        un_not _ (sym (ap (λ (v : Arch). not (effect_at prog (instruction_at prog v) v).marks.halt)
+        not-false _ (sym (ap (λ (v : Arch). not (effect_at prog (instruction_at prog v) v).marks.halt)
         (did_walk prog w N did k (omega arith))) ∙ sym x.on ∙ ap (λ (n : ℕ). (machine prog w n).runs) e ∙ down)
 
     -- so what stands behind MEM/WB, where that does not halt, is one of the N
@@ -107,7 +108,7 @@ module _ (prog : Program) (w : Arch) where
     unfolding empty_ex_mem
     xm_fine l t k n (Xm.gap e) h z = absurd (false≢true (rw e at z))
     xm_fine l t k n (Xm.full e d o) h z =
-        fine_load k h (sym (ld_at prog (W k)) ∙ ap (λ (x : ExMem). loads x) (sym e) ∙ both_r l.valid _ z)
+        fine_load k h (sym (ld_at prog (W k)) ∙ ap (λ (x : ExMem). loads x) (sym e) ∙ (and_parts l.valid _ z).1)
 
     -- so a load wanted has one
     pub has_answer : (s : PipelineCpu) (t : ℕ) (asked : List Request) (l : List ℕ) (k n₁ n₂ : ℕ)

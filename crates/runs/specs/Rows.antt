@@ -31,7 +31,7 @@ table_row v sheet table answers r = (
 
 -- the start with zeros, but in user mode
 unfoldable pub user_start : Start
-user_start = record { reg = replicate 32 0; pc = 0; mode = Normal; user = true; features = 0 }
+user_start = record { reg = replicate 32 0; at = record { pc = 0; mode = Normal }; user = true; features = 0 }
 
 unfoldable pub halt_sheet : List ℕ
 halt_sheet = 0x02 ∷ 0x00 ∷ 0x00 ∷ 0x00 ∷ 0x00 ∷ []

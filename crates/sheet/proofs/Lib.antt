@@ -2,3 +2,4 @@ pub mod Fair
 pub mod Left
 pub mod Limit
 pub mod Refused
+pub mod OnLiterals

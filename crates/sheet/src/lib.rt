@@ -1,4 +1,5 @@
-// The step sheet: records of five bytes, their check and what they offer a fetch; and the order of a run's turns.
+// The step sheet: records of five bytes, their check and what they offer a fetch; what a run is given, and the order of
+// its turns.
 //
 // Wrong programs that the promises rule out, for each function two:
 // - bad_length: 20,480 bytes refused; 20,485 accepted.
@@ -34,7 +35,18 @@ impl Record {
     pub const SIZE: usize = 5;
 }
 
-// How a run ends.
+// What a run or a play is given: a sheet, load answers, a table with the words of the special registers, and a limit on
+// ticks or instructions.
+#[derive(Clone, Copy, Debug)]
+pub struct Inputs<'a> {
+    pub sheet: &'a [u8],
+    pub answers: &'a [u32],
+    pub table: &'a [u32],
+    pub limit: u32,
+}
+
+// How a run ends. Refused is one of the ends that RULES 18.2 lists, and is reported, printed and compared as one: so a
+// refusal stands here, and not in a `Result` around an end.
 #[derive(Clone, Copy, Debug, PartialEq, Eq)]
 pub enum End {
     Halted,

@@ -6,7 +6,7 @@ use crate::Record;
 use crate::records::record_of;
 use isa::{Instruction, Mode, Place, RawInstr};
 
-// Record k of a sheet; none outside it.
+// Record k of a sheet; none outside it. `as`, since the library has no `From` of 32 bits for `usize`.
 #[tactic(auto, unfolding(crate::specs::Sheet::record_at))]
 pub(crate) fn record_at(sheet: &[u8], k: u32) -> Option<Record>
     ensures { result ≡ record_at sheet.now k }

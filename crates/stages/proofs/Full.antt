@@ -1,6 +1,6 @@
 -- Whether a counter is full, by each of the five. Assumes nothing.
 use mathlib.Core.Bool.{Bool, ◌||◌}
-use Rattle.isa.proofs.Bools.{or_l, or_r}
+use Rattle.std.proofs.lemmas.Bool.{or_parts}
 use Rattle.stages.specs.Counting.{counter_full}
 use Rattle.stages.specs.Inner.{Tells, TellsAll}
 use Rattle.stages.specs.Names.{Counters}
@@ -18,11 +18,16 @@ pub full_by :
 unfolding counter_full
 full_by s b1 b2 b3 b4 b5 t1 t2 t3 t4 t5 = record {
   is = rw (t1.is, t2.is, t3.is, t4.is, t5.is);
-  room = λ e. let e2 = or_r b1 _ e in let e3 = or_r b2 _ e2 in let e4 = or_r b3 _ e3 in record {
-    cycles = t1.room (or_l b1 _ e);
-    running_cycles = t2.room (or_l b2 _ e2);
-    instructions_executed = t3.room (or_l b3 _ e3);
-    stall_cycles = t4.room (or_l b4 _ e4);
-    flush_events = t5.room (or_r b4 _ e4);
-  };
+  room = λ e.
+      let e1 = or_parts b1 _ e in
+      let e2 = or_parts b2 _ e1.1 in
+      let e3 = or_parts b3 _ e2.1 in
+      let e4 = or_parts b4 _ e3.1 in
+      record {
+        cycles = t1.room e1.0;
+        running_cycles = t2.room e2.0;
+        instructions_executed = t3.room e3.0;
+        stall_cycles = t4.room e4.0;
+        flush_events = t5.room e4.1;
+      };
 }

@@ -1,6 +1,6 @@
 -- A tick loads. Assumes nothing.
-use mathlib.Core.Bool.{Bool, ◌&&◌, false, not, true}
-use mathlib.Core.Path.{◌∙◌, ◌≡◌, refl}
+use mathlib.Core.Bool.{◌&&◌, and_assoc, not}
+use mathlib.Core.Path.{◌∙◌, ◌≡◌}
 use Rattle.isa.proofs.Bools.{split}
 use Rattle.latch.specs.Latches.{empty_ex_mem}
 use Rattle.latch.specs.Retire.{halts}
@@ -8,10 +8,6 @@ use Rattle.stages.specs.Advance.{awake}
 use Rattle.stages.specs.Loads.{loads_in, want_load}
 use Rattle.stages.specs.Names.{Stages}
 use Rattle.stages.specs.Retire.{retire_stages}
-
-and_assoc : (a b c : Bool) → (a && b) && c ≡ a && (b && c)
-and_assoc true b c = refl
-and_assoc false b c = refl
 
 after_by : (l : Stages) → awake l && (not (halts l.mem_wb) && loads_in l) ≡ want_load l
 unfolding want_load loads_in retire_stages empty_ex_mem

@@ -30,7 +30,7 @@ impl Stages {
         self.if_id.cleared()
     }
 
-    // A wait in EX goes on.
+    // A wait in EX goes on. Here and below EX/MEM so far is the plan's, and what is taken in the caller's: they come apart.
     #[tactic(auto, unfolding(crate::specs::Advance::advance_by, crate::specs::Advance::id_ex_after, crate::specs::Advance::if_id_after, crate::specs::Move::is_wait, crate::specs::Advance::wait_after, crate::specs::Advance::place_after))]
     fn keep_waiting(self, ex_mem: ExMem, taken: Taken) -> Stages
         ensures { result ≡ advance_by keep_waiting ex_mem self.id_ex self.fetch_at self taken }
@@ -52,7 +52,7 @@ impl Stages {
         self.keep_waiting(ExMem::invalid(), taken)
     }
 
-    // A wait in EX begins.
+    // A wait in EX begins. A function for this and the one before, over the ticks left, would need a definition of its own.
     #[tactic(auto, unfolding(crate::specs::Advance::advance_by, crate::specs::Advance::id_ex_after, crate::specs::Advance::if_id_after, crate::specs::Move::is_wait, crate::specs::Advance::wait_after, crate::specs::Advance::place_after))]
     fn begin_wait(self, ex_mem: ExMem, taken: Taken) -> Stages
         ensures { result ≡ advance_by begin_wait ex_mem self.id_ex self.fetch_at self taken }

@@ -56,15 +56,6 @@ pub(crate) fn is_slow(d: IdEx) -> bool
     d.valid & (0 < d.decoded.waits())
 }
 
-fn predict_if(valid: bool, o: Operands, at: Place) -> Option<Place>
-    ensures { result ≡ cond valid (predict_by o at.pc at.mode) None }
-{
-    if valid {
-        return o.predict(at);
-    }
-    None
-}
-
 // IF/ID decoded, with its operands and the prediction.
 #[tactic(auto, unfolding(crate::specs::Plans::front_of, crate::specs::Fetch::predicted, isa::specs::Waits::predict, latch::specs::Latches::place_of))]
 pub(crate) fn front_of(f: IfId) -> Front
@@ -72,10 +63,15 @@ pub(crate) fn front_of(f: IfId) -> Front
 {
     let decoded = f.raw.decoded();
     let operands = decoded.operands();
+    let predicted = if f.valid {
+        operands.predict(f.place())
+    } else {
+        None
+    };
     Front {
         decoded,
         operands,
-        predicted: predict_if(f.valid, operands, f.place()),
+        predicted,
     }
 }
 

@@ -33,7 +33,7 @@ use isa::{Decoded, Operands, Place, RawInstr};
 use latch::{ExMem, IdEx, IfId, MemWb};
 
 // Fetch and retire place, latches, and the wait in EX. `ex_cycles_left` stands beside `ex_armed` as in the Rust: a caller
-// may hand in any number of ticks with a wait that is not armed, and it is kept (RULES 19.2).
+// may hand in up to 15 ticks with a wait that is not armed, and they are kept (RULES 19.2).
 #[derive(Clone, Copy)]
 pub struct Stages {
     pub fetch_at: Place,
@@ -50,7 +50,7 @@ pub struct Stages {
 }
 
 // What is counted: ticks, running ticks, instructions retired, stalls, flushes.
-#[derive(Clone, Copy)]
+#[derive(Clone, Copy, Default)]
 pub struct Counters {
     pub cycles: u64,
     pub running_cycles: u64,
@@ -62,7 +62,7 @@ pub struct Counters {
 // What a tick takes in: the load's answer, the instruction offered, and what is said of a special register, if
 // anything: that there is none, or its word. What a tick does not ask for is a 0 or a NOP here and is not looked at; with
 // options the runner's loop would test again what it has just asked.
-#[derive(Clone, Copy)]
+#[derive(Clone, Copy, Default)]
 pub struct Taken {
     pub answer: u32,
     pub raw: RawInstr,

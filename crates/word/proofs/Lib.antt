@@ -1,3 +1,4 @@
 pub mod Halves
 pub mod Width
 pub mod Rows
+pub mod OnLiterals

@@ -13,11 +13,13 @@
 // - ldil, ldih: the two halves exchanged; the other half cleared.
 // - of_signed, add_signed: the offset zero-extended; the offset in words of 4 bytes.
 // - cut: one width less; the high bytes kept.
-// - arithmetic: SLA as SRA; Some(0) for a command that does not exist.
+// - arithmetic: SLA as SRA; the operands exchanged.
+// - checked_arithmetic: Some(0) for a command that does not exist (other_commands_0); None for 1F.
+// A name in brackets is the must-fail edit that tries one.
 #![tactic(auto)]
 
 ghost use Rattle.std.specs.Prelude.{◌≡◌};
-ghost use Rattle.word.specs.Command.{command_of};
+ghost use Rattle.word.specs.Command.{arithmetic32, command_of};
 ghost use Rattle.word.specs.Words.{add32, and32, cut32, div32, divu32, ldih32, ldil32, mod32, mul32, mulh32};
 ghost use Rattle.word.specs.Words.{offset32, or32, sll32, slt32, sltu32, sra32, srl32, sub32, word_of};
 ghost use Rattle.word.specs.Words.{xor32};
@@ -118,7 +120,7 @@ pub fn mul(a: u32, b: u32) -> u32
     a.wrapping_mul(b)
 }
 
-// The high word of the signed product.
+// The high word of the signed product. What `as` cuts fits, once it is shifted; `try_from` would test that again.
 pub fn mulh(a: u32, b: u32) -> u32
     ensures { result ≡ mulh32 a b }
 {
@@ -186,13 +188,13 @@ pub fn cut(width: u8, v: u32) -> u32
     }
 }
 
-// The arithmetic of the commands 10 to 1F of the step sheet; None for any other. The command is a number, as C hands it
+// The arithmetic of the commands 10 to 1F of the step sheet; 0 for any other. The command is a number, as C hands it
 // over, and any number may come.
-#[tactic(auto, unfolding(crate::specs::Command::command_of, crate::specs::Command::arithmetic32))]
-pub fn arithmetic(command: u32, a: u32, b: u32) -> Option<u32>
-    ensures { result ≡ command_of command a b }
+#[tactic(auto, unfolding(crate::specs::Command::arithmetic32))]
+pub fn arithmetic(command: u32, a: u32, b: u32) -> u32
+    ensures { result ≡ arithmetic32 command a b }
 {
-    let word = match command {
+    match command {
         0x10 => add(a, b),
         0x11 => sub(a, b),
         0x12 => and(a, b),
@@ -208,7 +210,17 @@ pub fn arithmetic(command: u32, a: u32, b: u32) -> Option<u32>
         0x1D => div(a, b),
         0x1E => divu(a, b),
         0x1F => rem(a, b),
-        _ => return None,
-    };
-    Some(word)
+        _ => 0,
+    }
+}
+
+// The same; None for a command that does not exist.
+#[tactic(auto, unfolding(crate::specs::Command::command_of))]
+pub fn checked_arithmetic(command: u32, a: u32, b: u32) -> Option<u32>
+    ensures { result ≡ command_of command a b }
+{
+    match command {
+        0x10..=0x1F => Some(arithmetic(command, a, b)),
+        _ => None,
+    }
 }

@@ -16,5 +16,5 @@ const NO_SUCH_COMMAND: u64 = 4_294_967_301;
 pub extern "C" fn src32_alu(command: u32, a: u32, b: u32) -> u64
     ensures { result ≡ command32 command a b }
 {
-    word::arithmetic(command, a, b).map_or(NO_SUCH_COMMAND, u64::from)
+    word::checked_arithmetic(command, a, b).map_or(NO_SUCH_COMMAND, u64::from)
 }

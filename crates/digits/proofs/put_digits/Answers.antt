@@ -63,12 +63,6 @@ loop-from-preserved c =
       digits = rw e (l.invariant.digits ∙ rw (le-ltb _ _ m) at p);
     }
 
-pub returns-then-rest-radix-clause-before : goal.returns-then-rest-radix-clause-before
-returns-then-rest-radix-clause-before c =
-    let l = c.loop-from in
-    take-set-le (l.from - 1) l.out (l.from - 1) c.last_digit.result (omega arith)
-    ∙ l.invariant.before (l.from - 1) (omega arith)
-
 pub returns-then-rest-radix-clause-digits : goal.returns-then-rest-radix-clause-digits
 returns-then-rest-radix-clause-digits c =
     let l = c.loop-from in

@@ -5,5 +5,5 @@ use Rattle.runner.proofs.play.Given as goal
 
 abbrev pub invariant-loop-ticks : goal.invariant-loop-ticks
 invariant-loop-ticks l =
-    Holds (sheet_source l.source.sheet.now l.source.table.now) l.limit l.answers (joined l.initial.reg l.initial.state)
-    (joined l.reg l.state) l.left l.ticks
+    Holds (sheet_source l.inputs.sheet.now l.inputs.table.now) l.inputs.limit l.inputs.answers.now
+    (joined l.initial.reg l.initial.state) (joined l.reg l.state) l.left l.ticks

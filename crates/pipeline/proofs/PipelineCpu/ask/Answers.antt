@@ -17,4 +17,6 @@ returns-then-is_awake c = ask_passes _ (sym c.in_ok-check.ensures) _ c.wants.ens
 
 pub returns : goal.returns
 returns c =
-    ask_passes _ (sym c.in_ok-check.ensures) _ (rest_wants _ (sym c.is_awake.ensures ∙ c.if-is_awake.false))
+    let n = c.default.ensures in
+    ask_passes _ (sym c.in_ok-check.ensures) _
+    (rest_wants _ (sym c.is_awake.ensures ∙ c.if-is_awake.false) _ n.0 n.1.0 n.1.1.0 n.1.1.1)

@@ -5,14 +5,15 @@ use Rattle.pipeline.proofs.PipelineCpu.wants.Goals as goal
 
 pub returns-then-waits_on : goal.returns-then-waits_on
 returns-then-waits_on c =
-    wait_wants _ _ _
+    let n = c.default.ensures in
+    rw (n.0, n.1.1.0, n.1.1.1) (wait_wants _ _ _
     (record {
       awake = c.requires.moves;
       room = c.requires.room;
       stages = c.retire-s.ensures.value;
       reg = c.retire-s.ensures.reg_after;
     })
-    (sym c.waits_on.ensures ∙ c.if-waits_on.true) _ c.request.ensures
+    (sym c.waits_on.ensures ∙ c.if-waits_on.true) _ c.request.ensures)
 
 pub returns : goal.returns
 returns c =
