@@ -114,8 +114,8 @@ fn branches(c: bool, n: u32, o: i16, m: Mode) -> Effect
     goes_by(AluResult::default(), c.then_some(target), None)
 }
 
-// A jump to `q` in mode `m`; `n`: the mode that it changes to. Address and mode come apart, here
-// and in `links`, as the table's rows have them.
+// A jump to `q` in mode `m`; `n`: the mode that it changes to. Address and mode come apart, here and in
+// `links`, as the table's rows have them.
 #[tactic(auto, unfolding(crate::specs::Effect::jumps, crate::specs::Effect::no_result))]
 fn jumps(q: u32, m: Mode, n: Option<Mode>) -> Effect
     ensures { result ≡ jumps q m n }

@@ -49,8 +49,8 @@ ghost use Rattle.latch.specs.Latches.{empty_ex_mem, empty_id_ex, empty_if_id, em
 use isa::{Decoded, Exception, Mode, Mtsr, RawInstr};
 
 // The flags of the latches (`valid`, `writeback`, `branch_taken`, a width of 0) are no options: a caller may hand in any
-// value beside a flag that is off, and it is tested, kept and compared (RULES 8.5, 19.2). `pc` and `mode` are
-// fields, and no `Place`, as in the Rust.
+// value beside a flag that is off, and it is tested, kept and compared (RULES 8.5, 19.2). `pc` and `mode` are fields, and
+// no `Place`, as in the Rust.
 
 // Between fetch and decode.
 #[derive(Clone, Copy, Default)]

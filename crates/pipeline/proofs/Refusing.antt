@@ -47,7 +47,7 @@ pub all_pass : {A : Type 0} (c : Tests) (x : A) → checked c ≡ Ok tt → verd
 unfolding verdict
 all_pass c x e = ap (λ (d : Tests). verdict d x) (sym (and_pass c)) ∙ tests_pass c pass x e
 
--- 4, where 1 and 3 do not arise
+-- 4, where 1 and 3 do not arise; the edit refusal_10_before_4 is refused here
 pub given_4 : (fetch : Option Place) (load : Bool) (q : Option ℕ) (t : Given) (k f b : Bool) → k ≡ ok_offer t.offer
     → not k ≡ false → f ≡ fits_offer fetch t.offer → not f ≡ false → b ≡ same load (is_some t.answer) → not b ≡ true
     → Err BadAnswer ≡ checked (given_tests fetch load q t)

@@ -1,6 +1,6 @@
 -- The slots of a sheet. Assumes nothing.
 use Prim.Native.Nat.{◌%◌, ◌*◌, ◌+◌, ◌-◌, ◌/◌, ◌<◌, suc, zero, ℕ}
-use borrow.Author.Tests.{eq-eqb, eqb-true}
+use borrow.Author.Tests.{eq-eqb}
 use lib.Dec.{eqb}
 use lib.ListN.{get_or, length, set}
 use lib.Seq.{get_or-set_same}
@@ -9,7 +9,6 @@ use mathlib.Core.List.{List, [], ◌∷◌}
 use mathlib.Core.Path.{◌∙◌, ◌≡◌, ap, refl, sym}
 use native.Mathlib.Omega.{arith}
 use Rattle.std.specs.Prelude.{All}
-use Rattle.std.proofs.lemmas.Bool.{and_parts}
 use Rattle.isa.specs.Effect.{size}
 use Rattle.isa.specs.declared.Mode.TheVariants.{Normal, Short}
 use Rattle.player.specs.Inner.{IsOwn, slot_at, slot_of}
@@ -32,7 +31,7 @@ pub put : (sheet : List ℕ) (slots slots' : List Slot) (k : ℕ) (d s : Slot) (
     → s ≡ slot_at sheet p m → k < length slots → get_or slots' k d ≡ slot_at sheet p m
 put sheet slots slots' k d s p m e q l = rw e (get_or-set_same slots k s d l ∙ q)
 
--- a mode is told by its size
+-- Behind here nothing is cited: two theorems that docs/PORT.md names, and what they need. A mode is told by its size.
 same_mode_lem : (m n : Mode) → eqb (size m) (size n) ≡ true → m ≡ n
 unfolding size
 same_mode_lem Normal Normal e = refl
@@ -51,13 +50,6 @@ place_of p = p / 2 % 512
 place_in : (p : ℕ) → place_of p < 512
 unfolding place_of
 place_in p = omega arith
-
--- a slot of the table that is that of an address and mode
-pub hit : (sheet : List ℕ) (slots : List Slot) (k : ℕ) (d : Slot) (p : ℕ) (m : Mode) → All (IsOwn sheet) slots
-    → k < length slots → is_at (get_or slots k d) p m ≡ true → get_or slots k d ≡ slot_at sheet p m
-unfolding is_at
-hit sheet slots k d p m h l e =
-    found sheet slots k d p m h l (eqb-true _ _ (and_parts _ _ e).0) (same_mode_lem _ _ (and_parts _ _ e).1)
 
 is_own : (sheet : List ℕ) (p : ℕ) (m : Mode) → is_at (slot_at sheet p m) p m ≡ true
 unfolding is_at slot_at slot_of size

@@ -22,6 +22,7 @@ unfolding play
 play_halted g zero w = refl
 play_halted g (suc n) w = refl
 
+-- what stops a play; the edits loads_before_stopped and stopping_one_done are refused here
 play_stops : (g : Program) (n : ℕ) (w : Arch) → stops_at g (instruction_at g w) w ≡ true
     → play g (suc n) false w ≡ ended (cond (is_barred (effect_at g (instruction_at g w) w)) PlayStopped PlayLoads) w
 unfolding play play_by

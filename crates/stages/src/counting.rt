@@ -56,8 +56,8 @@ impl Counters {
         self.full()
     }
 
-    // A machine that does not run. Here as in the next two, a full counter leaves all as they are; a
-    // function for that, over a closure, would be longer than the three tests.
+    // A machine that does not run. Here as in the next two, a full counter leaves all as they are; a function for
+    // that, over a closure, would be longer than the three tests.
     #[tactic(auto, unfolding(crate::specs::Counting::unless_full, crate::specs::Counting::count_idle))]
     pub fn idle(mut self) -> Counters
         ensures { result ≡ unless_full self (count_idle self) }
