@@ -11,10 +11,9 @@ use Rattle.refusal.specs.Number.{number_of}
 use Rattle.isa.proofs.Bools.{split}
 use Rattle.report.specs.Ascii.{decimal, digits_in, line, value}
 use Rattle.report.specs.Claims.{Claims}
-use Rattle.report.specs.Names.{BadAnswer, BadCommand, BadLength, BadLimit, BadOffer, BadRegister, BadSpecial}
-use Rattle.report.specs.Names.{CounterFull, End, EndRefused, Exception, Faulty, Halted, HighPreview}
-use Rattle.report.specs.Names.{IllegalInstruction, Loads, LongPreview, MemWb, OutOfBounds, PrivilegedInstruction}
-use Rattle.report.specs.Names.{Ran, Refusal, Spent, SyscallException}
+use Rattle.report.specs.Names.{BadCommand, BadLength, BadRegister, End, EndRefused, Exception, Faulty, Halted}
+use Rattle.report.specs.Names.{IllegalInstruction, Loads, MemWb, PrivilegedInstruction, Ran, Refusal, Spent}
+use Rattle.report.specs.Names.{SyscallException}
 use Rattle.report.specs.Refusal.{explained, fault_reason, hex_digit, hex_four, hexadecimal, reason_text, record_text}
 use Rattle.report.specs.Refusal.{refusal_by, refusal_of, refusal_text}
 use Rattle.report.specs.Text.{count_lines, end_line, register_line, register_lines, report_text}
@@ -105,14 +104,7 @@ refusal_length BadRegister first m = explained_length first BadRegister _ (omega
 refusal_length BadCommand first m = explained_length first BadCommand _ (omega arith)
 refusal_length BadLength first m = omega arith
 refusal_length Faulty first m = explained_length m.pc Faulty _ (fault_length m.exception m.iret)
-refusal_length BadOffer first m = number_length _
-refusal_length BadAnswer first m = number_length _
-refusal_length BadLimit first m = number_length _
-refusal_length LongPreview first m = number_length _
-refusal_length HighPreview first m = number_length _
-refusal_length BadSpecial first m = number_length _
-refusal_length OutOfBounds first m = number_length _
-refusal_length CounterFull first m = number_length _
+refusal_length r first m = number_length _
 
 short_refusal_lem : (e : End) (sheet : List ℕ) (m : MemWb) → length (refusal_text e sheet m) ≤ 139
 unfolding refusal_text

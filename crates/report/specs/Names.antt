@@ -3,9 +3,7 @@ pub use Rattle.isa.specs.declared.Exception.{Exception}
 pub use Rattle.isa.specs.declared.Exception.TheVariants.{PrivilegedInstruction, IllegalInstruction}
 pub use Rattle.isa.specs.declared.Exception.TheVariants.{Syscall as SyscallException}
 pub use Rattle.refusal.specs.declared.Refusal.{Refusal}
-pub use Rattle.refusal.specs.declared.Refusal.TheVariants.{BadRegister, BadOffer, BadAnswer, BadCommand, BadLength}
-pub use Rattle.refusal.specs.declared.Refusal.TheVariants.{BadLimit, LongPreview, HighPreview, BadSpecial, OutOfBounds}
-pub use Rattle.refusal.specs.declared.Refusal.TheVariants.{Faulty, CounterFull}
+pub use Rattle.refusal.specs.declared.Refusal.TheVariants.{BadRegister, BadCommand, BadLength, Faulty}
 pub use Rattle.sheet.specs.declared.End.{End}
 pub use Rattle.sheet.specs.declared.End.TheVariants.{Halted, Spent, Refused as EndRefused, Loads}
 pub use Rattle.latch.specs.declared.MemWb.{MemWb}
