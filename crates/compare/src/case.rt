@@ -34,8 +34,18 @@ impl<'a> Case<'a> {
     ) -> Result<Option<Line>, Failure>
         requires { F.IsAlwaysCallable function }
     {
+        self.try_answer(|input| Ok(function(input)))
+    }
+
+    // The same of a function that may find that the numbers are no case.
+    pub fn try_answer<I: FromNumbers, O: ToNumbers, F: FnOnce(I) -> Result<O, Malformed>>(
+        self,
+        function: F,
+    ) -> Result<Option<Line>, Failure>
+        requires { F.IsAlwaysCallable function }
+    {
         let alloc = self.alloc;
         let input = self.input()?;
-        Ok(Some(Line::of(alloc, function(input))?))
+        Ok(Some(Line::of(alloc, function(input)?)?))
     }
 }

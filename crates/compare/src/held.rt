@@ -1,11 +1,12 @@
-// What is held from line to line: the state of a list of ticks, the sheet, the load answers and the table of special
-// registers.
+// What is held from line to line: the state of a list of ticks, the sheet, the load answers, the table of special
+// registers and the log.
 use crate::case::Case;
 use crate::cases::{arithmetic, asked, code, latency, retired, short_operands};
 use crate::failure::Failure;
 use crate::inputs::{Halfword, InBounds};
 use crate::kind::Kind;
 use crate::line::{Line, ToNumbers};
+use crate::logs::{HeldLog, logged, reading};
 use crate::numbers::{FromNumbers, Malformed};
 use crate::reports::Report;
 use isa::{Decoded, ShortInstruction, Start};
@@ -22,10 +23,11 @@ pub struct Held {
     sheet: Vec<u8>,
     answers: Vec<u32>,
     table: Vec<u32>,
+    log: HeldLog,
 }
 
 // The first so many. `as`, here and in `put`, since the library has no `From` of 32 bits for `usize`.
-fn first<T>(held: &[T], count: u32) -> Result<&[T], Malformed> {
+pub fn first<T>(held: &[T], count: u32) -> Result<&[T], Malformed> {
     held.get(..count as usize).ok_or(Malformed)
 }
 
@@ -44,7 +46,7 @@ fn put<T: Copy, V: FromNumbers + AsSlice<T>>(
 }
 
 impl Held {
-    // A start with all zeros, and nothing but zeros else.
+    // A start with all zeros, nothing but zeros else, and a log of no bytes.
     pub fn new(alloc: Global) -> Result<Held, AllocError> {
         Ok(Held {
             alloc,
@@ -52,6 +54,7 @@ impl Held {
             sheet: vec![in alloc; 0; 20736]?,
             answers: vec![in alloc; 0; 4096]?,
             table: vec![in alloc; 0; 65600]?,
+            log: HeldLog::new(alloc)?,
         })
     }
 
@@ -89,15 +92,15 @@ impl Held {
             Kind::HeldSheet => put::<u8, [u8; 256]>(self.sheet.as_mut_slice(), case),
             Kind::HeldAnswers => put::<u32, [u32; 64]>(self.answers.as_mut_slice(), case),
             Kind::HeldTable => put::<u32, [u32; 64]>(self.table.as_mut_slice(), case),
-            Kind::Run => self.run(
-                case,
-                |state, inputs| Report::of(state, inputs, runner::run(state, inputs)),
-            ),
+            Kind::Run => self.run(case, Report::run),
             Kind::Play => self.run(case, player::play),
-            Kind::Preview => self.run(
-                case,
-                |state, inputs| Report::of(state, inputs, panel::preview(state, inputs)),
-            ),
+            Kind::Preview => self.run(case, Report::preview),
+            Kind::LoggedTick => case.try_answer(logged),
+            Kind::HeldLog => self.begin_log(case),
+            Kind::HeldLoggedTick => self.tick_logged(case),
+            Kind::HeldLogBytes => case.try_answer(|at| self.log.bytes_at(at)),
+            Kind::HeldRead => case.try_answer(|place| self.log.read(place)),
+            Kind::Read => case.try_answer(reading),
         }
     }
 
@@ -112,6 +115,18 @@ impl Held {
         let ticked = self.state.tick(case.input()?);
         self.state = ticked.state;
         Ok(Some(Line::of(self.alloc, (code(ticked.outcome), wanted))?))
+    }
+
+    fn begin_log(&mut self, case: Case<'_>) -> Result<Option<Line>, Failure> {
+        self.log.begin(case.input()?)?;
+        Ok(None)
+    }
+
+    // One tick that keeps the log held: its code, and the first free place then.
+    fn tick_logged(&mut self, case: Case<'_>) -> Result<Option<Line>, Failure> {
+        let ticked = self.log.tick(self.state, case.input()?)?;
+        self.state = ticked.state;
+        Ok(Some(Line::of(self.alloc, (code(ticked.outcome), self.log.free))?))
     }
 
     fn show(&self, case: Case<'_>) -> Result<Option<Line>, Failure> {

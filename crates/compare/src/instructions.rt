@@ -30,7 +30,7 @@ impl ToNumbers for RawInstr {
     fn to_numbers(self, line: &mut Line) -> Result<(), AllocError> {
         match self {
             RawInstr::Normal(instruction) => line.write((false, Coded::from(instruction))),
-            RawInstr::Short(half) => line.write((true, half, [0; 3])),
+            RawInstr::Short(half) => line.write((true, half, [0_u32; 3])),
         }
     }
 }

@@ -26,6 +26,12 @@ pub enum Kind {
     Run,
     Play,
     Preview,
+    LoggedTick,
+    HeldLog,
+    HeldLoggedTick,
+    HeldLogBytes,
+    HeldRead,
+    Read,
 }
 
 impl TryFrom<u32> for Kind {
@@ -56,6 +62,12 @@ impl TryFrom<u32> for Kind {
             0x15 => Kind::Play,
             0x16 => Kind::Preview,
             0x17 => Kind::HeldTable,
+            0x18 => Kind::LoggedTick,
+            0x19 => Kind::HeldLog,
+            0x1A => Kind::HeldLoggedTick,
+            0x1B => Kind::HeldLogBytes,
+            0x1C => Kind::HeldRead,
+            0x1D => Kind::Read,
             _ => return Err(Malformed),
         })
     }

@@ -9,7 +9,7 @@ pub trait ToNumbers: Copy {
 }
 
 // How many numbers the longest line has.
-const LONGEST: usize = 125;
+const LONGEST: usize = 139;
 
 #[derive(Drop)]
 pub struct Line(Vec<u32>);

@@ -13,6 +13,7 @@ mod instructions;
 mod kind;
 mod latches;
 mod line;
+mod logs;
 mod numbers;
 mod options;
 mod replies;

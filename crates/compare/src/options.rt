@@ -138,7 +138,7 @@ impl ToNumbers for Option<u16> {
 impl ToNumbers for Option<Origins> {
     fn to_numbers(self, line: &mut Line) -> Result<(), AllocError> {
         match self {
-            None => line.write([0; 2]),
+            None => line.write([0_u32; 2]),
             Some(origins) => line.write(origins),
         }
     }

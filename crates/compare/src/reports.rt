@@ -41,11 +41,19 @@ pub struct Report {
 }
 
 impl Report {
-    pub fn of(state: PipelineCpu, inputs: Inputs<'_>, ran: Ran) -> Report {
+    fn of(state: PipelineCpu, inputs: Inputs<'_>, ran: Ran) -> Report {
         Report {
             ran,
             requests: Requests::of(state, inputs, ran.ticks),
         }
+    }
+
+    pub fn run(state: PipelineCpu, inputs: Inputs<'_>) -> Report {
+        Report::of(state, inputs, runner::run(state, inputs))
+    }
+
+    pub fn preview(state: PipelineCpu, inputs: Inputs<'_>) -> Report {
+        Report::of(state, inputs, panel::preview(state, inputs))
     }
 }
 

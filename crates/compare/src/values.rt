@@ -70,6 +70,20 @@ impl ToNumbers for u64 {
     }
 }
 
+// A place of a list. `as`, since the library has no conversions between `usize` and 64 bits.
+impl FromNumbers for usize {
+    fn from_numbers(numbers: &mut Numbers<'_>) -> Result<usize, Malformed> {
+        let place: u64 = numbers.read()?;
+        Ok(place as usize)
+    }
+}
+
+impl ToNumbers for usize {
+    fn to_numbers(self, line: &mut Line) -> Result<(), AllocError> {
+        line.write(self as u64)
+    }
+}
+
 impl<const N: usize> FromNumbers for [u32; N] {
     fn from_numbers(numbers: &mut Numbers<'_>) -> Result<[u32; N], Malformed> {
         let mut words = [0; N];
@@ -80,14 +94,23 @@ impl<const N: usize> FromNumbers for [u32; N] {
     }
 }
 
-// The bytes of 64 words, each high byte first.
-impl FromNumbers for [u8; 256] {
-    fn from_numbers(numbers: &mut Numbers<'_>) -> Result<[u8; 256], Malformed> {
-        let mut bytes = [0; 256];
+// The bytes of words, each high byte first.
+impl<const N: usize> FromNumbers for [u8; N] {
+    fn from_numbers(numbers: &mut Numbers<'_>) -> Result<[u8; N], Malformed> {
+        let mut bytes = [0; N];
         for word in bytes.chunks_exact_mut(4) {
             word.copy_from_slice(&numbers.number()?.to_be_bytes());
         }
         Ok(bytes)
+    }
+}
+
+impl<const N: usize> ToNumbers for [u8; N] {
+    fn to_numbers(self, line: &mut Line) -> Result<(), AllocError> {
+        for word in self.chunks_exact(4) {
+            line.push(u32::from_be_bytes([word[0], word[1], word[2], word[3]]))?;
+        }
+        Ok(())
     }
 }
 

@@ -2,8 +2,8 @@
 use Rattle.std.specs.Prelude.{ℕ}
 use Rattle.refusal.specs.declared.Refusal.{Refusal}
 use Rattle.refusal.specs.declared.Refusal.TheVariants.{BadAnswer, BadCommand, BadLength, BadLimit, BadOffer}
-use Rattle.refusal.specs.declared.Refusal.TheVariants.{BadRegister, BadSpecial, CounterFull, Faulty, HighPreview}
-use Rattle.refusal.specs.declared.Refusal.TheVariants.{LongPreview, OutOfBounds}
+use Rattle.refusal.specs.declared.Refusal.TheVariants.{BadEntry, BadRegister, BadSpecial, CounterFull, Faulty}
+use Rattle.refusal.specs.declared.Refusal.TheVariants.{HighPreview, LogFull, LongPreview, OutOfBounds, ShortLog}
 
 -- the number of a refusal
 unfoldable pub number_of : Refusal → ℕ
@@ -19,3 +19,6 @@ number_of BadSpecial = 10
 number_of OutOfBounds = 11
 number_of Faulty = 12
 number_of CounterFull = 13
+number_of LogFull = 14
+number_of BadEntry = 21
+number_of ShortLog = 22

@@ -34,6 +34,12 @@ pub enum Refusal {
     Faulty = 12,
     // A counter at its top.
     CounterFull = 13,
+    // A log without room for the tick's events.
+    LogFull = 14,
+    // A log's entry with an unknown command, a register outside 1 to 31, or a width other than 0, 1, 2, 4.
+    BadEntry = 21,
+    // A log that ends inside an entry.
+    ShortLog = 22,
 }
 
 impl Refusal {

@@ -1,6 +1,10 @@
-//! The expected answer to each case: the original's, behind the refusals of RULES 19; plays and origins are a reading's.
+//! The expected answer to each case: the original's, behind the refusals of RULES 19; plays, origins and the card log
+//! are a reading's.
+
+mod logs;
 
 use crate::buffers::Buffers;
+use crate::card_log::{self, HeldLog};
 use crate::case::Case;
 use crate::cpu_pipeline::harness::arithmetic::{self, Arithmetic};
 use crate::cpu_pipeline::harness::original::Original;
@@ -14,11 +18,12 @@ use crate::rows::{Begin, Decoded, Given, IdEx, IfId, Input, Seen, Special, State
 use crate::runner;
 use crate::special_registers;
 
-/// Answers cases one after the other, and holds the state of the list under way and the buffers of runs.
+/// Answers cases one after the other, and holds the state and the log of the list under way and the buffers of runs.
 pub struct Answers {
     original: Original,
     arithmetic: Arithmetic,
     held: State,
+    log: HeldLog,
     buffers: Buffers,
 }
 
@@ -38,6 +43,7 @@ impl Answers {
             original,
             arithmetic: Arithmetic::fresh(),
             held,
+            log: HeldLog::new(&held),
             buffers: Buffers::new(),
         }
     }
@@ -59,7 +65,7 @@ impl Answers {
             Case::Hazard(latch, first, second) => self.hazard(latch, [*first, *second], out),
             Case::Retire(state) => self.retire(state, out),
             Case::Start(begin) => self.original.start(begin).put(out),
-            Case::ListStart(begin) => self.held = self.original.start(begin),
+            Case::ListStart(begin) => self.list_start(begin),
             Case::ListTick(given) => self.list_tick(given, out),
             Case::ListShow => self.held.put(out),
             Case::PutSheet(at, block) => self.buffers.put_sheet(*at, block),
@@ -68,6 +74,12 @@ impl Answers {
             Case::Run(state, given) => self.run(state, given, out),
             Case::Player(begin, given) => self.player(begin, given, out),
             Case::Panel(state, given) => self.panel(state, given, out),
+            Case::Logged(state, given, log) => self.logged(state, given, log, out),
+            Case::HoldLog(length, free) => self.hold_log(*length, *free),
+            Case::LogTick(given) => self.log_tick(given, out),
+            Case::LogShow(at) => self.log.block(*at).put(out),
+            Case::LogRead(length, place) => self.log.read(*length, *place).put(out),
+            Case::Reads(log) => logs::read(log).put(out),
         }
         case.has_a_result()
     }
@@ -97,11 +109,18 @@ impl Answers {
         next.put(out);
     }
 
+    /// Begins a list.
+    fn list_start(&mut self, begin: &Begin) {
+        self.held = self.original.start(begin);
+        self.log.written.registers = None;
+    }
+
     /// Does one tick on the state held and answers what asking named before it.
     fn list_tick(&mut self, given: &Input, out: &mut Vec<u32>) {
         let state = self.held;
         let (code, next, seen) = self.ticked(&state, given);
         self.held = next;
+        self.log.written.registers = None;
         code.put(out);
         seen.put(out);
     }
@@ -124,7 +143,8 @@ impl Answers {
     }
 
     /// Panics if a case is a play that differs from the original's run of the same sheet, a tick whose question for a
-    /// special register is not the original's, or one with origins that the original does not show.
+    /// special register is not the original's, one with origins or events that the original does not show, or the end
+    /// of a list whose log reads otherwise than it was written.
     pub fn check(&mut self, case: &Case) {
         let original = &mut self.original;
         match case {
@@ -133,6 +153,9 @@ impl Answers {
             }
             Case::Tick(state, _) | Case::Ask(state) => check_asking(original, state),
             Case::ListTick(_) => check_asking(original, &self.held),
+            Case::Logged(state, given, _) => card_log::check_tick(original, state, given),
+            Case::LogTick(given) => card_log::check_tick(original, &self.held, given),
+            Case::ListShow => card_log::check_list(&self.log, &self.held),
             Case::Forwarded(state, register) => {
                 origins::check_forwarding(original, state, *register);
             }

@@ -9,7 +9,7 @@ pub use names::result_names;
 
 use crate::buffers::Block;
 use crate::cpu_pipeline::harness::Numbers;
-use crate::rows::{Begin, Decoded, Given, IdEx, IfId, Input, Special, State};
+use crate::rows::{Begin, Decoded, Given, IdEx, IfId, Input, LentLog, ReadLog, Special, State};
 
 /// One question.
 #[derive(Debug, Clone, Copy, PartialEq, Eq)]
@@ -39,6 +39,14 @@ pub enum Case {
     Run(State, Given),
     Player(Begin, Given),
     Panel(State, Given),
+    Logged(State, Input, LentLog),
+    /// How much of the log held is lent, and its first free place.
+    HoldLog(u32, u64),
+    LogTick(Input),
+    LogShow(u32),
+    /// How much of the log held is read, and the place.
+    LogRead(u32, u64),
+    Reads(ReadLog),
 }
 
 impl Case {
@@ -52,6 +60,7 @@ impl Case {
                 | Case::ShortOperands(_)
                 | Case::Start(_)
                 | Case::ListShow
+                | Case::LogShow(_)
         );
         self.has_a_result() && !without && self.given().is_none()
     }
@@ -68,7 +77,11 @@ impl Case {
     pub fn has_a_result(&self) -> bool {
         !matches!(
             self,
-            Case::ListStart(_) | Case::PutSheet(..) | Case::PutAnswers(..) | Case::PutTable(..)
+            Case::ListStart(_)
+                | Case::PutSheet(..)
+                | Case::PutAnswers(..)
+                | Case::PutTable(..)
+                | Case::HoldLog(..)
         )
     }
 }

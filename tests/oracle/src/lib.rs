@@ -3,6 +3,7 @@
 pub mod answer;
 mod answers;
 mod buffers;
+mod card_log;
 pub mod case;
 pub mod command_line;
 pub mod compare;
@@ -11,7 +12,9 @@ mod exports;
 mod generator;
 mod line;
 pub mod listing;
+pub mod log_rows;
 mod maker;
+mod offers;
 pub mod origin_rows;
 mod origins;
 mod panel;

@@ -7,6 +7,7 @@ use std::process::ExitCode;
 const USAGE: &str = "usage:
   oracle listings
   oracle origin-rows
+  oracle log-rows
   oracle tickrun
   oracle compare PROGRAM KIND COUNT SEED
   oracle cases KIND COUNT SEED
@@ -23,6 +24,7 @@ fn run(words: &[&str]) -> Result<bool> {
     match *words {
         ["listings"] => oracle::listing::run(out()),
         ["origin-rows"] => oracle::origin_rows::run(out()),
+        ["log-rows"] => oracle::log_rows::run(out()),
         ["tickrun"] => oracle::tickrun::run(stdin().lock(), out()).map(|()| true),
         ["answer"] => oracle::answer::run(stdin().lock(), out()).map(|()| true),
         ["compare", program, of, count, seed] => {

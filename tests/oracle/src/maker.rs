@@ -9,6 +9,8 @@ mod fuzz;
 mod instruction;
 mod latch;
 mod list;
+mod log_list;
+mod logged;
 mod meeting;
 mod offer;
 mod operands;
@@ -18,6 +20,7 @@ mod part;
 mod plain;
 mod player;
 mod program;
+mod reads;
 mod records;
 mod run;
 mod sending;
@@ -99,6 +102,9 @@ impl Maker {
             Kind::Fuzz => return self.fuzz(out),
             Kind::Player => return self.player(false, out),
             Kind::Panel => return self.panel(false, out),
+            Kind::Logged => self.logged(),
+            Kind::Reads => self.reads(),
+            Kind::LogLists => return self.log_list(out),
         };
         out.push(case);
     }

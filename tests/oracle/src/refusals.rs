@@ -20,6 +20,9 @@ pub const UNWANTED_SPECIAL: u32 = 10;
 pub const OUT_OF_BOUNDS: u32 = 11;
 pub const NOT_RETIRABLE: u32 = 12;
 pub const COUNTER_FULL: u32 = 13;
+pub const LOG_FULL: u32 = 14;
+pub const BAD_ENTRY: u32 = 21;
+pub const ENTRY_CUT_SHORT: u32 = 22;
 
 /// Tells the refusal by where the machine stands, or none.
 pub fn standing(state: &State) -> u32 {

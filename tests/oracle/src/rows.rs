@@ -2,12 +2,14 @@
 
 mod instruction;
 mod latch;
+mod log;
 mod origin;
 mod special;
 mod state;
 
 pub use instruction::{Decoded, Offer, Raw};
 pub use latch::{ExMem, IdEx, IfId, MemWb};
+pub use log::{LOG_BYTES, LentLog, LogWords, ReadLog, bytes_of, words_of};
 pub use origin::{Origin, Origins};
 pub use special::Special;
 pub use state::{Answer, Begin, Given, Input, Redirect, Seen, State};

@@ -26,9 +26,10 @@ pub fn run(cases: &str, count: u64, seed: u64, mut out: impl Write) -> Result<bo
         chosen: Vec::new(),
     };
     let asked = choice.open.len();
-    let single = Kind::without_runs().filter(|&kind| kind != Kind::Lists);
+    let single = Kind::without_runs().filter(|kind| ![Kind::Lists, Kind::LogLists].contains(kind));
     choice.take_best(&single.collect::<Vec<_>>(), seed);
     choice.take_best(&[Kind::Lists], seed);
+    choice.take_best(&[Kind::LogLists], seed);
     choice.take_best(&[Kind::Runs], seed);
     choice.take_best(&[Kind::Player], seed);
     choice.take_best(&[Kind::Panel], seed);

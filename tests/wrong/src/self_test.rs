@@ -88,6 +88,7 @@ fn use_the_original_feature_word(case: &mut Case) {
         | Case::Execute(state, ..)
         | Case::Decode(state, _)
         | Case::Retire(state)
+        | Case::Logged(state, ..)
         | Case::Run(state, _)
         | Case::Panel(state, _) => state.features = ORIGINAL_FEATURES,
         Case::ListStart(begin) | Case::Player(begin, _) => begin.features = ORIGINAL_FEATURES,

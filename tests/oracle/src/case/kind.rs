@@ -23,10 +23,13 @@ pub enum Kind {
     Fuzz,
     Player,
     Panel,
+    Logged,
+    Reads,
+    LogLists,
 }
 
 /// Every kind with its name.
-const NAMES: [(Kind, &str); 18] = [
+const NAMES: [(Kind, &str); 21] = [
     (Kind::Arithmetic, "arithmetic"),
     (Kind::Halfwords, "halfwords"),
     (Kind::Operands, "operands"),
@@ -45,6 +48,9 @@ const NAMES: [(Kind, &str); 18] = [
     (Kind::Fuzz, "fuzz"),
     (Kind::Player, "player"),
     (Kind::Panel, "panel"),
+    (Kind::Logged, "logged"),
+    (Kind::Reads, "reads"),
+    (Kind::LogLists, "loglists"),
 ];
 
 /// The kinds that need a sheet.
@@ -73,11 +79,18 @@ impl Kind {
             Case::Hazard(..) => &[Kind::Hazard],
             Case::Retire(_) => &[Kind::Retire],
             Case::Start(_) => &[Kind::Start],
-            Case::ListStart(_) | Case::ListTick(..) | Case::ListShow => &[Kind::Lists],
+            Case::ListStart(_) | Case::ListTick(..) | Case::ListShow => {
+                &[Kind::Lists, Kind::LogLists]
+            }
             Case::PutSheet(..) | Case::PutAnswers(..) | Case::PutTable(..) => &OVER_A_SHEET,
             Case::Run(..) => &[Kind::Runs, Kind::Fuzz],
             Case::Player(..) => &[Kind::Player],
             Case::Panel(..) => &[Kind::Panel],
+            Case::Logged(..) => &[Kind::Logged],
+            Case::Reads(_) => &[Kind::Reads],
+            Case::HoldLog(..) | Case::LogTick(_) | Case::LogShow(_) | Case::LogRead(..) => {
+                &[Kind::LogLists]
+            }
         };
         kinds.contains(&self)
     }

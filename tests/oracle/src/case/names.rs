@@ -1,16 +1,20 @@
 //! Names of the numbers in a result line.
 
 use super::Case;
+use crate::buffers::Block;
 use crate::cpu_pipeline::harness::Numbers;
 use crate::player::Played;
 use crate::row::Row;
-use crate::rows::{ExMem, IdEx, Origins, Redirect, Seen, State};
+use crate::rows::{ExMem, IdEx, LogWords, Origins, Redirect, Seen, State};
 use crate::runner::Run;
 
 /// Names of the operands of an instruction, the two that id_sources gives among them.
 const OPERANDS: [&str; 9] = [
     "src0", "src1", "n_srcs", "dest", "is_load", "is_store", "id_src0", "id_src1", "latency",
 ];
+
+/// Names of the numbers of an event; behind a command 81 the first two are a register and its word.
+const EVENT: [&str; 4] = ["command", "address", "width", "word"];
 
 /// Gives the names of the numbers that a case's result line holds.
 pub fn result_names(case: &Case) -> Vec<String> {
@@ -39,6 +43,30 @@ pub fn result_names(case: &Case) -> Vec<String> {
         Case::Run(..) | Case::Panel(..) => Run::names(&mut names),
         Case::Player(..) => Played::names(&mut names),
         Case::ListStart(_) | Case::PutSheet(..) | Case::PutAnswers(..) | Case::PutTable(..) => {}
+        Case::Logged(..)
+        | Case::HoldLog(..)
+        | Case::LogTick(_)
+        | Case::LogShow(_)
+        | Case::LogRead(..)
+        | Case::Reads(_) => log_names(case, &mut names),
     }
     names
+}
+
+/// Appends the names of the numbers that a case of the card log has behind its code.
+fn log_names(case: &Case, names: &mut Vec<String>) {
+    match case {
+        Case::Logged(..) => {
+            u64::names("free", names);
+            LogWords::names("log", names);
+            State::names("", names);
+        }
+        Case::LogTick(_) => u64::names("free", names),
+        Case::LogShow(_) => Block::names("log", names),
+        Case::LogRead(..) | Case::Reads(_) => {
+            names.extend(EVENT.map(String::from));
+            u64::names("next", names);
+        }
+        _ => {}
+    }
 }

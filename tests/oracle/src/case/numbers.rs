@@ -2,9 +2,10 @@
 
 use super::Case;
 use crate::buffers::{ANSWERS, BLOCK_BYTES, BLOCK_WORDS, Block, SHEET_BYTES, TABLE_WORDS};
+use crate::card_log::HELD_BYTES;
 use crate::cpu_pipeline::harness::{Numbers, operands};
 use crate::row::Row;
-use crate::rows::Given;
+use crate::rows::{Given, LOG_BYTES, LentLog, ReadLog};
 
 impl Case {
     /// Gives the number that a case's line begins with.
@@ -33,6 +34,12 @@ impl Case {
             Case::Player(..) => 0x15,
             Case::Panel(..) => 0x16,
             Case::PutTable(..) => 0x17,
+            Case::Logged(..) => 0x18,
+            Case::HoldLog(..) => 0x19,
+            Case::LogTick(..) => 0x1a,
+            Case::LogShow(..) => 0x1b,
+            Case::LogRead(..) => 0x1c,
+            Case::Reads(..) => 0x1d,
         }
     }
 
@@ -55,13 +62,22 @@ impl Case {
             Case::MulDiv(decoded) => decoded.put(out),
             Case::Hazard(latch, first, second) => put_both(latch, &[*first, *second], out),
             Case::Start(begin) | Case::ListStart(begin) => begin.put(out),
-            Case::ListTick(given) => given.put(out),
+            Case::ListTick(given) | Case::LogTick(given) => given.put(out),
             Case::ListShow => {}
             Case::PutSheet(at, block) | Case::PutAnswers(at, block) | Case::PutTable(at, block) => {
                 put_both(at, block, out);
             }
             Case::Run(state, given) | Case::Panel(state, given) => put_both(state, given, out),
             Case::Player(begin, given) => put_both(begin, given, out),
+            Case::Logged(state, given, log) => {
+                put_both(state, given, out);
+                log.put(out);
+            }
+            Case::HoldLog(length, place) | Case::LogRead(length, place) => {
+                put_both(length, place, out);
+            }
+            Case::LogShow(at) => at.put(out),
+            Case::Reads(log) => log.put(out),
         }
     }
 
@@ -99,6 +115,12 @@ impl Case {
             0x15 => Case::Player(Row::take(rest)?, read_given(rest)?),
             0x16 => Case::Panel(Row::take(rest)?, read_given(rest)?),
             0x17 => read_block(rest, TABLE_WORDS - BLOCK_WORDS, Case::PutTable)?,
+            0x18 => Case::Logged(Row::take(rest)?, Row::take(rest)?, read_lent_log(rest)?),
+            0x19 => read_log_part(rest, Case::HoldLog)?,
+            0x1a => Case::LogTick(Row::take(rest)?),
+            0x1b => Case::LogShow(read_log_place(rest)?),
+            0x1c => read_log_part(rest, Case::LogRead)?,
+            0x1d => Case::Reads(read_short_log(rest)?),
             _ => return None,
         })
     }
@@ -134,4 +156,26 @@ fn read_given(rest: &mut &[u32]) -> Option<Given> {
         && given.answer_count as usize <= ANSWERS
         && given.table_length as usize <= TABLE_WORDS;
     held.then_some(given)
+}
+
+/// Reads a log that a tick is lent, within its words.
+fn read_lent_log(rest: &mut &[u32]) -> Option<LentLog> {
+    LentLog::take(rest).filter(|log| log.length as usize <= LOG_BYTES)
+}
+
+/// Reads a log that is read, within its words.
+fn read_short_log(rest: &mut &[u32]) -> Option<ReadLog> {
+    ReadLog::take(rest).filter(|log| log.length as usize <= LOG_BYTES)
+}
+
+/// Reads how much of the log held is meant, and a place in it or not.
+fn read_log_part(rest: &mut &[u32], case: fn(u32, u64) -> Case) -> Option<Case> {
+    let length = u32::take(rest)?;
+    let place = u64::take(rest)?;
+    (length as usize <= HELD_BYTES).then_some(case(length, place))
+}
+
+/// Reads where the part of the log held that is shown begins.
+fn read_log_place(rest: &mut &[u32]) -> Option<u32> {
+    u32::take(rest).filter(|&at| at as usize <= HELD_BYTES - BLOCK_BYTES)
 }

@@ -11,6 +11,7 @@ mod origin;
 pub mod original;
 mod parts;
 mod register_block;
+mod retired;
 mod short_numbers;
 mod special_register;
 mod tick;

@@ -39,7 +39,7 @@ impl Maker {
     }
 
     /// Chooses how many ticks a list has at most.
-    fn length(&mut self) -> u32 {
+    pub fn length(&mut self) -> u32 {
         if self.random.chance(15) {
             1 + self.random.below(LONGEST)
         } else {
@@ -48,7 +48,7 @@ impl Maker {
     }
 
     /// Gives what fits, or now and then something else.
-    fn given(&mut self, program: &Program, state: &State) -> Input {
+    pub fn given(&mut self, program: &Program, state: &State) -> Input {
         let mut given = self.fitting(program, state);
         match self.random.below(if state.running { 100 } else { 20 }) {
             0..5 => {

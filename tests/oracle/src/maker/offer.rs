@@ -14,7 +14,7 @@ impl Maker {
     }
 
     /// Makes an offer and both answers, mostly those that are wanted.
-    fn input(&mut self, seen: &Seen) -> Input {
+    pub fn input(&mut self, seen: &Seen) -> Input {
         let offer = if self.random.chance(88) {
             self.wanted_offer(seen)
         } else {

@@ -3,9 +3,9 @@
 use super::Expected;
 use crate::answers::Answers;
 use crate::case::Case;
-use crate::cpu_pipeline::harness::Numbers;
 use crate::cpu_pipeline::harness::original::Original;
-use crate::rows::{Answer, Begin, Input, LOAD, NORMAL, Offer, Origin, SHORT, Seen, Special};
+use crate::offers::{CPUID, HALT, NOP, addi, given, normal};
+use crate::rows::{Begin, NORMAL, Offer, Origin, SHORT};
 use crate::tickrun::BEGIN;
 use Origin::{ExMem, ExMemCpuid, MemWb, MemWbCpuid, RegisterFile, ZeroRegister};
 
@@ -17,9 +17,6 @@ type Listed = (&'static [Offer], usize, &'static [[Origin; 2]]);
 const NONE: [Origin; 2] = [Origin::NotShown; 2];
 const FILE: [Origin; 2] = [RegisterFile; 2];
 
-const NOP: Offer = normal(0x00, [0; 3]);
-const CPUID: Offer = normal(0x11, [0; 3]);
-const HALT: Offer = normal(0x12, [0; 3]);
 const LDI_R2_7: Offer = Offer::Short(0x9207);
 const LD_R5: Offer = normal(0x01, [5, 0, 8]);
 const BEQ_R0_R0: Offer = normal(0x07, [0; 3]);
@@ -28,19 +25,9 @@ const DIV_R2_R1_R0: Offer = normal(0x1c, [2, 1, 0]);
 /// The word of every load.
 const LOADED: u32 = 21;
 
-/// Makes an offer of a Normal instruction.
-const fn normal(variant: u32, fields: [u32; 3]) -> Offer {
-    Offer::Normal(Numbers { variant, fields })
-}
-
 /// Makes an ADD.
 const fn add(rd: u32, rs1: u32, rs2: u32) -> Offer {
     normal(0x03, [rd, rs1, rs2])
-}
-
-/// Makes an ADDI.
-const fn addi(rd: u32, rs1: u32, imm: i32) -> Offer {
-    normal(0x04, [rd, rs1, imm as u32])
 }
 
 /// Makes a MUL.
@@ -159,7 +146,7 @@ fn lines(&(offers, first, shown): &Listed) -> Vec<Expected> {
         origins: Vec::new(),
     }];
     for origins in std::iter::repeat_n(&NONE, first - 1).chain(shown) {
-        let given = given(offers, &original.asked(&state));
+        let given = given(offers, LOADED, &original.asked(&state));
         state = answers.ticked(&state, &given).1;
         lines.push(Expected {
             case: Case::ListTick(given),
@@ -167,25 +154,4 @@ fn lines(&(offers, first, shown): &Listed) -> Vec<Expected> {
         });
     }
     lines
-}
-
-/// Gives a tick what it asks for, behind the instructions NOP or MOV R0,R0.
-fn given(offers: &[Offer], seen: &Seen) -> Input {
-    let (size, behind) = match seen.mode {
-        NORMAL => (4, NOP),
-        _ => (2, Offer::Short(0)),
-    };
-    let offered = offers.get((seen.pc / size) as usize);
-    let loads = seen.request == LOAD;
-    Input {
-        offer: match seen.fetch {
-            true => *offered.unwrap_or(&behind),
-            false => Offer::Nothing,
-        },
-        answer: Answer {
-            given: loads,
-            word: if loads { LOADED } else { 0 },
-        },
-        special: Special::NotGiven,
-    }
 }

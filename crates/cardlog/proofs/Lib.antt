@@ -1,0 +1,4 @@
+pub mod Found
+pub mod Laying
+pub mod Present
+pub mod RoundTrip

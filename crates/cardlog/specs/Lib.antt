@@ -1,0 +1,5 @@
+pub mod Names
+pub mod Bytes
+pub mod Events
+pub mod Writing
+pub mod Reading

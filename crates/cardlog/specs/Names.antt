@@ -1,0 +1,9 @@
+-- The declared types and constructors that this crate names, each under the name that the declaring crate gives it.
+pub use Rattle.isa.specs.declared.Request.{Request}
+pub use Rattle.isa.specs.declared.Request.TheVariants.{Load, Store}
+pub use Rattle.latch.specs.declared.MemWb.{MemWb}
+pub use Rattle.refusal.specs.declared.Refusal.{Refusal}
+pub use Rattle.refusal.specs.declared.Refusal.TheVariants.{BadEntry, LogFull, ShortLog}
+pub use Rattle.cardlog.specs.declared.Event.{Event}
+pub use Rattle.cardlog.specs.declared.Event.TheVariants.{Retired, Written, Load as Loaded, Store as Stored}
+pub use Rattle.cardlog.specs.declared.Read.{Read}

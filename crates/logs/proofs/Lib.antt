@@ -1,0 +1,11 @@
+pub mod Along
+pub mod Laid
+pub mod Ticks
+pub mod Lists
+pub mod Taken
+pub mod Reading
+pub mod Registers
+pub mod Here
+pub mod Card
+pub mod Rows
+pub mod Claims
