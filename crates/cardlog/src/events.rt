@@ -4,16 +4,16 @@ ghost use Rattle.cardlog.specs.Events.{access_events, dest_events, present, reti
 
 use crate::Event;
 use isa::Request;
-use isa::registers::PROCESSOR_NAME;
+use isa::registers::{PROCESSOR_NAME, is_reg};
 use latch::MemWb;
 
 // A destination that is written back, if it is one of R1 to R31.
-#[tactic(auto, unfolding(crate::specs::Events::dest_events, isa::specs::Registers::is_reg))]
+#[tactic(auto, unfolding(crate::specs::Events::dest_events))]
 fn written(writeback: bool, dest: Option<u8>, word: u32) -> Option<Event>
     ensures { option_to_list result ≡ cond writeback (dest_events dest word) [] }
 {
     match dest {
-        Some(register @ 1..=31) if writeback => Some(Event::Written { register, word }),
+        Some(register) if writeback && is_reg(register) => Some(Event::Written { register, word }),
         _ => None,
     }
 }

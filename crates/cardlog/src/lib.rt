@@ -31,3 +31,12 @@ pub struct Read {
     pub found: Result<Option<Event>, Refusal>,
     pub at: usize,
 }
+
+// The commands of entries.
+const RETIRED: u8 = 0x80;
+
+const WRITTEN: u8 = 0x81;
+
+const LOAD: u8 = 0x82;
+
+const STORE: u8 = 0x83;

@@ -1,11 +1,11 @@
 // The reader: one event at a place of a log, with the next place.
 ghost use Rattle.std.specs.Prelude.{◌≡◌, cond};
-ghost use Rattle.isa.specs.Registers.{is_reg};
-ghost use Rattle.latch.specs.Bounds.{bad_width};
 ghost use Rattle.cardlog.specs.Names.{Loaded, Stored};
-ghost use Rattle.cardlog.specs.Reading.{access_in, found_in, moved, read, retired_in, written_in};
+ghost use Rattle.cardlog.specs.Reading.{access_in, found_in, read, retired_in, written_in};
 
-use crate::{Event, Read};
+use crate::{Event, LOAD, RETIRED, Read, STORE, WRITTEN};
+use isa::registers::is_reg;
+use latch::bounds::bad_width;
 use refusal::Refusal;
 
 // An entry 80.
@@ -21,14 +21,14 @@ fn retired_in(rest: &[u8]) -> Result<Option<Event>, Refusal>
 }
 
 // An entry 81.
-#[tactic(auto, unfolding(crate::specs::Reading::written_in, crate::specs::Reading::word_at, isa::specs::Registers::is_reg))]
+#[tactic(auto, unfolding(crate::specs::Reading::written_in, crate::specs::Reading::word_at))]
 fn written_in(rest: &[u8]) -> Result<Option<Event>, Refusal>
     ensures { result ≡ written_in rest.now }
 {
     let [_, register, a, b, c, d, ..] = *rest else {
         return Err(Refusal::ShortLog);
     };
-    if !matches!(register, 1..=31) {
+    if !is_reg(register) {
         return Err(Refusal::BadEntry);
     }
     let word = u32::from_be_bytes([a, b, c, d]);
@@ -36,14 +36,14 @@ fn written_in(rest: &[u8]) -> Result<Option<Event>, Refusal>
 }
 
 // An entry 82 or 83.
-#[tactic(auto, unfolding(crate::specs::Reading::access_in, crate::specs::Reading::word_at, latch::specs::Bounds::bad_width))]
+#[tactic(auto, unfolding(crate::specs::Reading::access_in, crate::specs::Reading::word_at))]
 fn access_in(store: bool, rest: &[u8]) -> Result<Option<Event>, Refusal>
     ensures { result ≡ access_in (cond store Stored Loaded) rest.now }
 {
     let [_, a, b, c, d, width, e, f, g, h, ..] = *rest else {
         return Err(Refusal::ShortLog);
     };
-    if !matches!(width, 0 | 1 | 2 | 4) {
+    if bad_width(width) {
         return Err(Refusal::BadEntry);
     }
     let addr = u32::from_be_bytes([a, b, c, d]);
@@ -61,10 +61,10 @@ fn found_in(rest: &[u8]) -> Result<Option<Event>, Refusal>
 {
     match *rest {
         [] => Ok(None),
-        [0x80, ..] => retired_in(rest),
-        [0x81, ..] => written_in(rest),
-        [0x82, ..] => access_in(false, rest),
-        [0x83, ..] => access_in(true, rest),
+        [RETIRED, ..] => retired_in(rest),
+        [WRITTEN, ..] => written_in(rest),
+        [LOAD, ..] => access_in(false, rest),
+        [STORE, ..] => access_in(true, rest),
         _ => Err(Refusal::BadEntry),
     }
 }

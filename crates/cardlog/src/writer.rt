@@ -4,7 +4,7 @@ ghost use Rattle.cardlog.specs.Bytes.{access_bytes, bytes, bytes_of};
 ghost use Rattle.cardlog.specs.Events.{present};
 ghost use Rattle.cardlog.specs.Writing.{laid, log_written, next_free};
 
-use crate::Event;
+use crate::{Event, LOAD, RETIRED, STORE, WRITTEN};
 use refusal::Refusal;
 
 // 82 or 83.
@@ -40,14 +40,14 @@ impl Event {
         match self {
             Event::Retired { pc } => {
                 let [a, b, c, d] = pc.to_be_bytes();
-                rest[..5].copy_from_slice(&[0x80, a, b, c, d]);
+                rest[..5].copy_from_slice(&[RETIRED, a, b, c, d]);
             }
             Event::Written { register, word } => {
                 let [a, b, c, d] = word.to_be_bytes();
-                rest[..6].copy_from_slice(&[0x81, register, a, b, c, d]);
+                rest[..6].copy_from_slice(&[WRITTEN, register, a, b, c, d]);
             }
-            Event::Load { addr, width, word } => put_access(0x82, addr, width, word, rest),
-            Event::Store { addr, width, word } => put_access(0x83, addr, width, word, rest),
+            Event::Load { addr, width, word } => put_access(LOAD, addr, width, word, rest),
+            Event::Store { addr, width, word } => put_access(STORE, addr, width, word, rest),
         }
     }
 }

@@ -3,6 +3,7 @@
 // Wrong programs that the promises rule out, for each function two. A name in brackets is the must-fail edit that
 // tries one, in the code or in its definition:
 // - short_reg_to_gpr: R15 for 15 (register_15_is_r15); R31 for 14.
+// - is_reg: R0 let through; R31 left out.
 // - read_reg: the word that stands in reg[0] for R0; 0 for R31.
 // - put_reg: R0 written; R31 not written.
 // - write_reg: a word for R1 where no destination is named; R0 put to 0.

@@ -1,16 +1,24 @@
 // Reading and writing the registers.
 ghost use Rattle.std.specs.Prelude.{◌≡◌};
-ghost use Rattle.isa.specs.Registers.{put_reg, read_reg, write_cpuid, write_reg};
+ghost use Rattle.isa.specs.Registers.{is_reg, put_reg, read_reg, write_cpuid, write_reg};
 
 // The processor's name, which CPUID gives.
 pub const PROCESSOR_NAME: u32 = 0x53524332;
+
+// Whether it is one of R1 to R31, the registers that can be written.
+#[tactic(auto, unfolding(crate::specs::Registers::is_reg))]
+pub fn is_reg(r: u8) -> bool
+    ensures { result ≡ is_reg r }
+{
+    0 < r && r < 32
+}
 
 // The value of a register; R0 reads as 0.
 #[tactic(auto, unfolding(crate::specs::Registers::is_reg, crate::specs::Registers::read_reg))]
 pub fn read_reg(reg: &[u32; 32], r: u8) -> u32
     ensures { result ≡ read_reg reg.now r }
 {
-    if 0 < r && r < 32 {
+    if is_reg(r) {
         return reg[usize::from(r)];
     }
     0
@@ -21,7 +29,7 @@ pub fn read_reg(reg: &[u32; 32], r: u8) -> u32
 pub fn put_reg(k: u8, v: u32, reg: &mut [u32; 32])
     ensures { reg.new ≡ put_reg k v reg.old }
 {
-    if 0 < k && k < 32 {
+    if is_reg(k) {
         reg[usize::from(k)] = v;
     }
 }

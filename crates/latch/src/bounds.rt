@@ -7,7 +7,7 @@ use isa::destinations::is_dest_in_bounds;
 
 // A width other than 0, 1, 2, 4.
 #[tactic(auto, unfolding(crate::specs::Bounds::bad_width))]
-fn bad_width(w: u8) -> bool
+pub fn bad_width(w: u8) -> bool
     ensures { result ≡ bad_width w }
 {
     !matches!(w, 0 | 1 | 2 | 4)

@@ -21,6 +21,7 @@
 // - MemWb::holds: a register that the latch names but does not write back; R1 where it holds CPUID.
 // - ExMem::holds: the destination of a load; the destination of an invalid latch.
 // - operand: MEM/WB before EX/MEM (mem_wb_before_ex_mem); what a latch holds for R0.
+// - bad_width: 0 left out; 3 let through.
 // - IfId::out_of_bounds: an invalid latch let through; an unknown halfword stopped.
 // - IdEx::out_of_bounds: an invalid latch let through; 3 sources let through.
 // - ExMem::out_of_bounds: an invalid latch let through; a width of 3 let through.
@@ -36,7 +37,7 @@
 // - MemWb::write_back: a word left in R0; CPUID's words put over the destination's.
 #![tactic(auto)]
 
-mod bounds;
+pub mod bounds;
 mod decode;
 pub mod execute;
 pub mod forwarding;

@@ -5,6 +5,7 @@ use mathlib.Core.List.{List, [], ◌++◌, ◌∷◌, append-nil, append_assoc}
 use mathlib.Core.Path.{◌∙◌, ◌≡◌, ap, refl, sym}
 use native.Mathlib.Omega.{arith}
 use Rattle.std.specs.Prelude.{Err, Ok, Option, Result, is_some, option_to_list}
+use Rattle.std.proofs.lemmas.List.Concat.{flat_map-append}
 use Rattle.isa.proofs.Bools.{split}
 use Rattle.logging.specs.Logging.{tick_events}
 use Rattle.pipeline.specs.Advance.{move_of, next, resting}
@@ -18,9 +19,10 @@ use Rattle.accuracy.proofs.Took.{advance_retired, answer_is, answer_none, took}
 use Rattle.accuracy.specs.Accuracy.{Run, after, answers, fed, one, one_by}
 use Rattle.accuracy.specs.Names.{Taken}
 use Rattle.logs.proofs.Along.{along, events_along}
-use Rattle.logs.proofs.Ticks.{loaded_append, requests_append, retirements_append, says}
-use Rattle.logs.specs.Entries.{loaded, requests_in, retirements}
-use Rattle.logs.specs.Logs.{Kept, done, happened, kept, unless_refused}
+use Rattle.logs.proofs.Ticks.{retirements_append, says}
+use Rattle.logs.specs.Claims.{DoneTicks}
+use Rattle.logs.specs.Entries.{loaded, request_said, requests_in, retirements, word_said}
+use Rattle.logs.specs.Logs.{done, unless_refused}
 use Rattle.logs.specs.Names.{Event, Given, PipelineCpu, Refusal, Request}
 
 -- the retired count behind a tick
@@ -44,7 +46,7 @@ pub record Adds (r r' : Run) (fs : List ℕ) (es : List Event) : Type 0 where
 
 adds_by : (o : Result PipelineCpu Refusal) (r : Run) (t : Given) → tick r.state t ≡ o
     → Adds r (one_by o t r) (fed o t) (unless_refused o (tick_events r.state t))
-unfolding one_by fed unless_refused requests_in loaded retirements tick_events taken
+unfolding one_by fed unless_refused request_said word_said retirements tick_events taken
 adds_by (Err c) r t e = record { requests = sym (append-nil r.requests); answers = refl; count = omega arith }
 adds_by (Ok s) r t e =
     let k = took r.state t s e in
@@ -66,7 +68,7 @@ adds_one r t = adds_by (tick r.state t) r t refl
 
 -- a list
 pub adds : (ts : List Given) (r : Run) → Adds r (after r ts) (answers r ts) (events_along r ts)
-unfolding after answers events_along requests_in loaded retirements
+unfolding after answers events_along request_said word_said retirements
 adds [] r = record { requests = sym (append-nil r.requests); answers = refl; count = omega arith }
 adds (t ∷ ts) r =
     let x = adds_one r t in
@@ -75,17 +77,12 @@ adds (t ∷ ts) r =
     let es = events_along (one r t) ts in
     let n = x.count in let m = y.count in let z = retirements_append e es in
     record {
-      requests = rw (requests_append e es) (y.requests ∙ rw x.requests (append_assoc r.requests _ _));
-      answers = rw (loaded_append e es) (λ j. x.answers j ++ y.answers j);
+      requests = rw (flat_map-append request_said e es) (y.requests ∙ rw x.requests (append_assoc r.requests _ _));
+      answers = rw (flat_map-append word_said e es) (λ j. x.answers j ++ y.answers j);
       count = omega arith;
     }
 
-pub list : (r : Run) (k : Kept) (ts : List Given) → r.state ≡ k.state
-    → ((after r (done k ts)).state ≡ (kept k ts).state)
-    × ((after r (done k ts)).requests ≡ r.requests ++ requests_in (happened k ts))
-    × (answers r (done k ts) ≡ loaded (happened k ts))
-    × ((kept k ts).state.counts.instructions_executed
-    ≡ k.state.counts.instructions_executed + retirements (happened k ts))
+pub list : DoneTicks
 list r k ts q =
     let x = along ts k r q in
     let y = adds (done k ts) r in (

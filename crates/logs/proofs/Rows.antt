@@ -9,13 +9,13 @@ use Rattle.cardlog.specs.Reading.{access_in, entry_in, found_in, moved, read, re
 use Rattle.cardlog.specs.Writing.{fits, laid}
 use Rattle.logging.specs.Logging.{events, fitted, free_by, log_after, log_by, logged, logging_tick, tick_events}
 use Rattle.logs.specs.Logs.{happened, keep, kept, result_of, unless_refused}
-use Rattle.logs.specs.Rows.{Rows, both, card, events_of, halted, nothing, source_of, start, ticks, twice}
+use Rattle.logs.specs.Rows.{Rows, both, card, entries_of, halted, nothing, source_of, start, ticks, twice}
 use Rattle.pipeline.proofs.OnLiterals.{pipeline_on_literals}
 use Rattle.pipeline.specs.Tick.{handed_back}
 
 pub rows : Rows
 unfolding pipeline_on_literals request_in access_bytes access_events access_in begin both bytes bytes_of card
-    cpuid_events dest_events entry_in events events_of fits fitted found_in four free_by halted handed_back happened
+    cpuid_events dest_events entry_in events entries_of fits fitted found_in four free_by halted handed_back happened
     keep kept laid log_after log_by logged logging_tick moved nothing one one_by read replies result_of retire_events
     retired_in source_of start tick_events ticks twice unless_refused word_at written_in
 rows = record {

@@ -5,6 +5,7 @@ use mathlib.Core.List.{List, [], ◌++◌, ◌∷◌}
 use mathlib.Core.Path.{◌∙◌, ◌≡◌, ap, refl}
 use native.Mathlib.Omega.{arith}
 use Rattle.std.specs.Prelude.{None, Option, Some}
+use Rattle.std.proofs.lemmas.List.Concat.{flat_map-append}
 use Rattle.isa.proofs.Bools.{split}
 use Rattle.isa.specs.Machine.{request_of}
 use Rattle.isa.specs.Registers.{is_reg}
@@ -17,8 +18,8 @@ use Rattle.stages.specs.Loads.{loads_in, want_load}
 use Rattle.stages.specs.Retire.{retire_stages}
 use Rattle.word.specs.Words.{bit}
 use Rattle.accuracy.specs.Names.{MemWb, Stages}
-use Rattle.logs.specs.Entries.{loaded, requests_in, retirements}
-use Rattle.logs.specs.Names.{Event, Load, Loaded, Request, Retired, Store, Stored, Written}
+use Rattle.logs.specs.Entries.{loaded, request_said, requests_in, retirements, word_said}
+use Rattle.logs.specs.Names.{Event, Loaded, Request, Retired, Stored, Written}
 
 -- the load or store of a tick that moves, with answer a
 unfoldable pub accesses : Stages → ℕ → List Event
@@ -46,23 +47,7 @@ pub retire_gap : (l : MemWb) (f : ℕ) → l.valid ≡ false → retire_events l
 unfolding retire_events
 retire_gap l f e = rw e
 
--- what two runs of events say, one behind the other
-pub requests_append : (a b : List Event) → requests_in (a ++ b) ≡ requests_in a ++ requests_in b
-unfolding requests_in
-requests_append [] b = refl
-requests_append (Retired p ∷ a) b = requests_append a b
-requests_append (Written r v ∷ a) b = requests_append a b
-requests_append (Loaded p w v ∷ a) b = ap (λ (l : List Request). Load p w ∷ l) (requests_append a b)
-requests_append (Stored p w v ∷ a) b = ap (λ (l : List Request). Store p w v ∷ l) (requests_append a b)
-
-pub loaded_append : (a b : List Event) → loaded (a ++ b) ≡ loaded a ++ loaded b
-unfolding loaded
-loaded_append [] b = refl
-loaded_append (Retired p ∷ a) b = loaded_append a b
-loaded_append (Written r v ∷ a) b = loaded_append a b
-loaded_append (Loaded p w v ∷ a) b = ap (λ (l : List ℕ). v ∷ l) (loaded_append a b)
-loaded_append (Stored p w v ∷ a) b = loaded_append a b
-
+-- how many retire in two runs of events, one behind the other
 pub retirements_append : (a b : List Event) → retirements (a ++ b) ≡ retirements a + retirements b
 unfolding retirements
 retirements_append [] b = omega arith
@@ -78,23 +63,23 @@ pub record OnlyWrites (es : List Event) : Type 0 where
   pub retired : retirements es ≡ 0
 
 only_none : OnlyWrites []
-unfolding requests_in loaded retirements
+unfolding request_said word_said retirements
 only_none = record { requests = refl; loaded = refl; retired = refl }
 
 only_append : (a b : List Event) → OnlyWrites a → OnlyWrites b → OnlyWrites (a ++ b)
 only_append a b x y = record {
-  requests = requests_append a b ∙ (λ j. x.requests j ++ y.requests j);
-  loaded = loaded_append a b ∙ (λ j. x.loaded j ++ y.loaded j);
+  requests = flat_map-append request_said a b ∙ (λ j. x.requests j ++ y.requests j);
+  loaded = flat_map-append word_said a b ∙ (λ j. x.loaded j ++ y.loaded j);
   retired = retirements_append a b ∙ (λ j. x.retired j + y.retired j);
 }
 
 only_cpuid : (c : Bool) (f : ℕ) → OnlyWrites (cpuid_events c f)
-unfolding cpuid_events requests_in loaded retirements
+unfolding cpuid_events request_said word_said retirements
 only_cpuid true f = record { requests = refl; loaded = refl; retired = refl }
 only_cpuid false f = only_none
 
 only_dest : (d : Option ℕ) (v : ℕ) → OnlyWrites (dest_events d v)
-unfolding dest_events requests_in loaded retirements
+unfolding dest_events request_said word_said retirements
 only_dest None v = only_none
 only_dest (Some d) v = by (is_reg d)
   where
@@ -118,7 +103,7 @@ record RetireSays (v : Bool) (es : List Event) : Type 0 where
   pub retired : retirements es ≡ bit v
 
 retires_by : (v : Bool) (l : MemWb) (f : ℕ) → l.valid ≡ v → RetireSays v (retire_events l f)
-unfolding requests_in loaded retirements bit
+unfolding request_said word_said retirements bit
 retires_by true l f e = let w = only_writes l f in rw (retire_full l f e)
     (record { requests = w.requests; loaded = w.loaded; retired = ap suc w.retired })
 retires_by false l f e = rw (retire_gap l f e) (record { requests = refl; loaded = refl; retired = refl })
@@ -134,7 +119,7 @@ record AccessSays (v l : Bool) (qs : List Request) (a : ℕ) (es : List Event) :
 
 accesses_by : (v l s : Bool) (p w x a : ℕ) → AccessSays v l (cond v (request_of l s p w x) []) a
     (access_events (request_in (cond v (request_of l s p w x) [])) a)
-unfolding access_events request_in request_of requests_in loaded retirements
+unfolding access_events request_in request_of request_said word_said retirements
 accesses_by true true s p w x a = record { requests = refl; loaded = refl; retired = refl }
 accesses_by true false true p w x a = record { requests = refl; loaded = refl; retired = refl }
 accesses_by true false false p w x a = record { requests = refl; loaded = refl; retired = refl }
@@ -154,11 +139,11 @@ pub record Says (l : Stages) (a : ℕ) : Type 0 where
   pub retired : retirements (events l a) ≡ cond (awake l) (bit l.mem_wb.valid) 0
 
 pub says : (l : Stages) (a : ℕ) → Says l a
-unfolding asks want_load loads_in requests_in loaded retirements
+unfolding asks want_load loads_in request_said word_said retirements
 says l a = let x = retires l.mem_wb l.features in let y = accesses_lem l a in split (awake l)
     (λ e. let es = retire_events l.mem_wb l.features in record {
-      requests = rw (awake_events l a e, e, requests_append es (accesses l a), x.requests) y.requests;
-      loaded = rw (awake_events l a e, e, loaded_append es (accesses l a), x.loaded) y.loaded;
+      requests = rw (awake_events l a e, e, flat_map-append request_said es (accesses l a), x.requests) y.requests;
+      loaded = rw (awake_events l a e, e, flat_map-append word_said es (accesses l a), x.loaded) y.loaded;
       retired = rw (
         awake_events l a e,
         e,

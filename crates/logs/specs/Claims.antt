@@ -26,6 +26,17 @@ OnCard =
     → (N : ℕ) → 1 ≤ N → N ≤ retirements (happened k ts)
     → (x : Retires prog w r (done k ts) N) × Entered prog w v.reg (happened k ts) (happened k x.pre) N
 
+-- The ticks that were not refused are demand 3's list: it leaves the same state; the loads and stores of the log are the
+-- requests of its accepted ticks, and their words its answers; the log has an 80 for each retirement.
+abbrev pub DoneTicks : Type 0
+DoneTicks =
+    (r : Run) (k : Kept) (ts : List Given) → r.state ≡ k.state
+    → ((after r (done k ts)).state ≡ (kept k ts).state)
+    × ((after r (done k ts)).requests ≡ r.requests ++ requests_in (happened k ts))
+    × (answers r (done k ts) ≡ loaded (happened k ts))
+    × ((kept k ts).state.counts.instructions_executed
+    ≡ k.state.counts.instructions_executed + retirements (happened k ts))
+
 -- Everything claimed; proved in proofs/Claims.antt.
 pub record Claims : Type 0 where
   -- Every byte: those of the events from the first free place on, and no other changes.
@@ -38,13 +49,6 @@ pub record Claims : Type 0 where
   -- The 81 entries laid over the registers of the first state give those of the last, R0 reading as 0.
   pub registers : (k : Kept) (ts : List Given) (r : ℕ)
       → read_reg (laid_over (happened k ts) k.state.reg) r ≡ read_reg (kept k ts).state.reg r
-  -- The ticks that were not refused are demand 3's list: it leaves the same state; the loads and stores of the log are
-  -- the requests of its accepted ticks, and their words its answers; the log has an 80 for each retirement.
-  pub list : (r : Run) (k : Kept) (ts : List Given) → r.state ≡ k.state
-      → ((after r (done k ts)).state ≡ (kept k ts).state)
-      × ((after r (done k ts)).requests ≡ r.requests ++ requests_in (happened k ts))
-      × (answers r (done k ts) ≡ loaded (happened k ts))
-      × ((kept k ts).state.counts.instructions_executed
-      ≡ k.state.counts.instructions_executed + retirements (happened k ts))
+  pub list : DoneTicks
   pub on_card : OnCard
   pub rows : Rows

@@ -1,5 +1,6 @@
 -- What the entries of a log say: registers, retirements, loads and stores.
 use Rattle.std.specs.Prelude.{pred, suc, ℕ, set, List, [], ◌++◌, ◌∷◌, ◌≡◌}
+use Rattle.std.specs.List.{flat_map}
 use Rattle.isa.specs.Machine.{Arch, Program, machine}
 use Rattle.isa.specs.Registers.{read_reg}
 use Rattle.accuracy.specs.Count.{path}
@@ -8,34 +9,31 @@ use Rattle.logs.specs.Names.{Event, Load, Loaded, Request, Retired, Store, Store
 -- the 81 entries laid over registers
 unfoldable pub laid_over : List Event → List ℕ → List ℕ
 laid_over [] rs = rs
-laid_over (Retired pc ∷ es) rs = laid_over es rs
 laid_over (Written register word ∷ es) rs = laid_over es (set rs register word)
-laid_over (Loaded addr width word ∷ es) rs = laid_over es rs
-laid_over (Stored addr width word ∷ es) rs = laid_over es rs
+laid_over (e ∷ es) rs = laid_over es rs
 
 -- how many 80 entries there are
 unfoldable pub retirements : List Event → ℕ
 retirements [] = 0
 retirements (Retired pc ∷ es) = suc (retirements es)
-retirements (Written register word ∷ es) = retirements es
-retirements (Loaded addr width word ∷ es) = retirements es
-retirements (Stored addr width word ∷ es) = retirements es
+retirements (e ∷ es) = retirements es
 
--- the loads and stores, without a load's word
-unfoldable pub requests_in : List Event → List Request
-requests_in [] = []
-requests_in (Retired pc ∷ es) = requests_in es
-requests_in (Written register word ∷ es) = requests_in es
-requests_in (Loaded addr width word ∷ es) = Load addr width ∷ requests_in es
-requests_in (Stored addr width word ∷ es) = Store addr width word ∷ requests_in es
+-- the load or store of an 82 or 83 entry, without a load's word
+unfoldable pub request_said : Event → List Request
+request_said (Loaded addr width word) = Load addr width ∷ []
+request_said (Stored addr width word) = Store addr width word ∷ []
+request_said e = []
 
--- the words of the 82 entries
-unfoldable pub loaded : List Event → List ℕ
-loaded [] = []
-loaded (Retired pc ∷ es) = loaded es
-loaded (Written register word ∷ es) = loaded es
-loaded (Loaded addr width word ∷ es) = word ∷ loaded es
-loaded (Stored addr width word ∷ es) = loaded es
+abbrev pub requests_in : List Event → List Request
+requests_in es = flat_map request_said es
+
+-- the word of an 82 entry
+unfoldable pub word_said : Event → List ℕ
+word_said (Loaded addr width word) = word ∷ []
+word_said e = []
+
+abbrev pub loaded : List Event → List ℕ
+loaded es = flat_map word_said es
 
 -- The N-th 80 entry, with the entries `before` it and the 81 entries directly behind it: its address is that of the
 -- machine's N-th instruction; the loads and stores before it are the machine's by then; the 81 entries up to there,

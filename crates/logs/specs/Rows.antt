@@ -35,8 +35,8 @@ unfoldable pub card : ℕ → Kept
 card n = record { state = fresh start; log = replicate n 255; free = 0 }
 
 -- what these ticks write into a log with room
-unfoldable pub events_of : List Instruction → ℕ → ℕ → List Event
-events_of is answer n = happened (card 64) (ticks is answer n)
+unfoldable pub entries_of : List Instruction → ℕ → ℕ → List Event
+entries_of is answer n = happened (card 64) (ticks is answer n)
 
 -- a tick that is given nothing
 unfoldable pub nothing : Given
@@ -60,26 +60,26 @@ pub record Rows : Type 0 where
   pub halt : (kept (card 8) (ticks (Halt ∷ []) 0 5)).log ≡ 0x80 ∷ 0 ∷ 0 ∷ 0 ∷ 0 ∷ 255 ∷ 255 ∷ 255 ∷ []
   pub halt_free : (kept (card 8) (ticks (Halt ∷ []) 0 5)).free ≡ 5
   -- no entry for R0
-  pub zero : events_of (Addi 3 0 (pos 7) ∷ Addi 0 0 (pos 1) ∷ Halt ∷ []) 0 7
+  pub zero : entries_of (Addi 3 0 (pos 7) ∷ Addi 0 0 (pos 1) ∷ Halt ∷ []) 0 7
       ≡ Retired 0 ∷ Written 3 7 ∷ Retired 4 ∷ Retired 8 ∷ []
-  pub cpuid : events_of (Cpuid ∷ Halt ∷ []) 0 6 ≡ Retired 0 ∷ Written 1 0x53524332 ∷ Written 2 7 ∷ Retired 4 ∷ []
+  pub cpuid : entries_of (Cpuid ∷ Halt ∷ []) 0 6 ≡ Retired 0 ∷ Written 1 0x53524332 ∷ Written 2 7 ∷ Retired 4 ∷ []
   pub cpuid_and_destination : retire_events both 7
       ≡ Retired 0 ∷ Written 1 0x53524332 ∷ Written 2 7 ∷ Written 1 9 ∷ []
   -- a load in the fourth tick, its retirement in the fifth
-  pub load : events_of (Ld 5 0 (pos 8) ∷ Halt ∷ []) 21 4 ≡ Loaded 8 4 21 ∷ []
-  pub load_retired : events_of (Ld 5 0 (pos 8) ∷ Halt ∷ []) 21 6
+  pub load : entries_of (Ld 5 0 (pos 8) ∷ Halt ∷ []) 21 4 ≡ Loaded 8 4 21 ∷ []
+  pub load_retired : entries_of (Ld 5 0 (pos 8) ∷ Halt ∷ []) 21 6
       ≡ Loaded 8 4 21 ∷ Retired 0 ∷ Written 5 21 ∷ Retired 4 ∷ []
   -- a load's answer whole, a store's word cut
-  pub narrow_load : events_of (Ldb 5 0 (pos 8) ∷ Halt ∷ []) 300 6
+  pub narrow_load : entries_of (Ldb 5 0 (pos 8) ∷ Halt ∷ []) 300 6
       ≡ Loaded 8 1 300 ∷ Retired 0 ∷ Written 5 300 ∷ Retired 4 ∷ []
-  pub narrow_store : events_of (Addi 1 0 (pos 300) ∷ Stb 1 0 (pos 2) ∷ Halt ∷ []) 0 7
+  pub narrow_store : entries_of (Addi 1 0 (pos 300) ∷ Stb 1 0 (pos 2) ∷ Halt ∷ []) 0 7
       ≡ Retired 0 ∷ Written 1 300 ∷ Stored 2 1 44 ∷ Retired 4 ∷ Retired 8 ∷ []
   -- both in one latch are a load; a width of 0 asks for nothing
   pub load_and_store : access_events (request_in (requests (twice 4))) 21 ≡ Loaded 0 4 21 ∷ []
   pub no_width : access_events (request_in (requests (twice 0))) 21 ≡ []
   -- nothing behind a HALT; in the ticks of a divide's wait what retires
-  pub behind_halt : events_of (Halt ∷ St 0 0 (pos 0) ∷ []) 0 8 ≡ Retired 0 ∷ []
-  pub in_wait : events_of (Addi 1 0 (pos 9) ∷ Div 2 1 1 ∷ Halt ∷ []) 0 6 ≡ Retired 0 ∷ Written 1 9 ∷ []
+  pub behind_halt : entries_of (Halt ∷ St 0 0 (pos 0) ∷ []) 0 8 ≡ Retired 0 ∷ []
+  pub in_wait : entries_of (Addi 1 0 (pos 9) ∷ Div 2 1 1 ∷ Halt ∷ []) 0 6 ≡ Retired 0 ∷ Written 1 9 ∷ []
   -- 5 bytes are enough for HALT, 4 are not: nothing is written, and the machine has not halted
   pub room : happened (card 5) (ticks (Halt ∷ []) 0 5) ≡ Retired 0 ∷ []
   pub no_room : kept (card 4) (ticks (Halt ∷ []) 0 5) ≡ kept (card 4) (ticks (Halt ∷ []) 0 4)

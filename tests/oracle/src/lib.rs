@@ -5,6 +5,7 @@ mod answers;
 mod buffers;
 mod card_log;
 pub mod case;
+mod checked_rows;
 pub mod command_line;
 pub mod compare;
 mod edge_words;

@@ -8,7 +8,7 @@ mod read;
 
 use crate::answers::Answers;
 use crate::case::Case;
-use crate::sample;
+use crate::checked_rows::{self, CheckedRow};
 use std::io::{Error, Result, Write};
 
 /// A case, and what its result line begins with; nothing where it has none.
@@ -18,27 +18,25 @@ struct Expected {
 }
 
 /// Writes the case lines of all rows, or fails at one that is answered otherwise.
-pub fn run(mut out: impl Write) -> Result<bool> {
-    let mut answers = Answers::new();
+pub fn run(out: impl Write) -> Result<bool> {
     let rows = [lists::rows(), handed::rows(), full::rows(), read::rows()];
-    for expected in rows.iter().flatten() {
-        answers.check(&expected.case);
-        compare(expected, &mut answers)?;
-        sample::write_cases(&[expected.case], &mut out)?;
-    }
-    out.flush()?;
-    Ok(true)
+    checked_rows::write(&rows, out)
 }
 
-/// Compares the answer to a case with the one expected.
-fn compare(expected: &Expected, answers: &mut Answers) -> Result<()> {
-    let mut numbers = Vec::new();
-    answers.answer(&expected.case, &mut numbers);
-    let Expected { case, begins } = expected;
-    if numbers.starts_with(begins) && numbers.is_empty() == begins.is_empty() {
-        return Ok(());
+impl CheckedRow for Expected {
+    fn case(&self) -> &Case {
+        &self.case
     }
-    Err(Error::other(format!(
-        "log rows: {begins:x?} expected, {numbers:x?} answered to {case:?}"
-    )))
+
+    fn compare(&self, answers: &mut Answers) -> Result<()> {
+        let mut numbers = Vec::new();
+        answers.answer(&self.case, &mut numbers);
+        let Self { case, begins } = self;
+        if numbers.starts_with(begins) && numbers.is_empty() == begins.is_empty() {
+            return Ok(());
+        }
+        Err(Error::other(format!(
+            "log rows: {begins:x?} expected, {numbers:x?} answered to {case:?}"
+        )))
+    }
 }

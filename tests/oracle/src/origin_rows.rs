@@ -8,9 +8,9 @@ mod listed;
 
 use crate::answers::Answers;
 use crate::case::Case;
+use crate::checked_rows::{self, CheckedRow};
 use crate::row::Row;
 use crate::rows::Origin;
-use crate::sample;
 use std::io::{Error, Result, Write};
 
 /// A case, and the origins with which its result line ends; none where it has no result.
@@ -20,37 +20,35 @@ struct Expected {
 }
 
 /// Writes the case lines of all rows, or fails at one whose origins are others.
-pub fn run(mut out: impl Write) -> Result<bool> {
-    let mut answers = Answers::new();
+pub fn run(out: impl Write) -> Result<bool> {
     let rows = [
         listed::rows(),
         forwarded::rows(),
         executed::rows(),
         held::rows(),
     ];
-    for expected in rows.iter().flatten() {
-        answers.check(&expected.case);
-        compare(expected, &mut answers)?;
-        sample::write_cases(&[expected.case], &mut out)?;
-    }
-    out.flush()?;
-    Ok(true)
+    checked_rows::write(&rows, out)
 }
 
-/// Compares the origins of an accepted case with those expected.
-fn compare(expected: &Expected, answers: &mut Answers) -> Result<()> {
-    let (mut numbers, mut origins) = (Vec::new(), Vec::new());
-    let has_a_result = answers.answer(&expected.case, &mut numbers);
-    expected
-        .origins
-        .iter()
-        .for_each(|origin| origin.put(&mut origins));
-    let is_accepted = !has_a_result || numbers.first() == Some(&0);
-    if is_accepted && numbers.ends_with(&origins) {
-        return Ok(());
+impl CheckedRow for Expected {
+    fn case(&self) -> &Case {
+        &self.case
     }
-    let case = expected.case;
-    Err(Error::other(format!(
-        "origin rows: {origins:?} expected, {numbers:x?} answered to {case:?}"
-    )))
+
+    /// Compares the origins of an accepted case with those expected.
+    fn compare(&self, answers: &mut Answers) -> Result<()> {
+        let (mut numbers, mut origins) = (Vec::new(), Vec::new());
+        let has_a_result = answers.answer(&self.case, &mut numbers);
+        self.origins
+            .iter()
+            .for_each(|origin| origin.put(&mut origins));
+        let is_accepted = !has_a_result || numbers.first() == Some(&0);
+        if is_accepted && numbers.ends_with(&origins) {
+            return Ok(());
+        }
+        let case = self.case;
+        Err(Error::other(format!(
+            "origin rows: {origins:?} expected, {numbers:x?} answered to {case:?}"
+        )))
+    }
 }
