@@ -9,20 +9,19 @@
 // - write_reg: a word for R1 where no destination is named; R0 put to 0.
 // - write_cpuid: R2 written where the instruction is not CPUID; the two words exchanged.
 // - Start::zero: Short mode; the user flag set.
-// - RawInstr::default, Decoded::default: HALT for NOP (offer_default_halts, decoded_default_halts); a Short instruction.
+// - RawInstr::default, Decoded::default: HALT for NOP; a Short instruction.
 // - Operands::predict: every conditional branch taken; the offset added to the branch's own address.
 // - Decoded::waits: 16 for a divide; a wait for DIV and none for MOD.
 // - ShortInstruction::decode_short: LDI at nibble 10; JAL's offset unsigned.
 // - RawInstr::decoded: halfword F001 as Unknown; NOP for every Normal instruction.
 // - Decoded::operands: LDIL with no source; a latency of 4 for MUL (mul_latency_4);
 //   short ST with its operands exchanged (short_st_operands_swapped).
-// - is_dest_in_bounds: 32 in bounds (register_32_named); out of bounds where no destination is named.
+// - is_dest_in_bounds: 32 in bounds; out of bounds where no destination is named.
 // - Operands::in_bounds: the destination not tested; a source tested only where `n_srcs` counts it.
-// - Instruction::in_bounds: its first source alone tested (bounds_of_a_source_alone); false for MFSR.
-// - RawInstr::in_bounds: false for an unknown halfword; true for a Normal instruction with register 32
-//   (offers_untested).
+// - Instruction::in_bounds: its first source alone tested; false for MFSR.
+// - RawInstr::in_bounds: false for an unknown halfword; true for a Normal instruction with register 32.
 // - RawInstr::is_of: a halfword of either mode; the two modes exchanged.
-// - Decoded::in_bounds: false for a Short instruction (short_registers_refused); false for MFSR.
+// - Decoded::in_bounds: false for a Short instruction; false for MFSR.
 // - Decoded::effect: RET to the address in R31 (ret_to_r31); HALT that halts in user mode; a special register asked for
 //   in user mode (asked_in_user_mode).
 // - mfsr_with: 0 for no such register (absent_still_writes); the word cut to 16 bits.
@@ -30,7 +29,7 @@
 // - raises: an exception that leaves `writes` set; no exception for SYSCALL 0.
 // - Mode::size: 4 for Short; 2 for Normal.
 // - Mode::fall: 4 added in Short mode; a sum that stops at FFFFFFFF.
-// - Place::after: the same place (stays_in_place); Normal for every mode.
+// - Place::after: the same place; Normal for every mode.
 #![tactic(auto)]
 
 mod defaults;
