@@ -3,3 +3,4 @@ pub mod Left
 pub mod Limit
 pub mod Refused
 pub mod OnLiterals
+pub mod RecordBytes

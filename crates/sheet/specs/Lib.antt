@@ -3,3 +3,4 @@ pub mod Records
 pub mod Sheet
 pub mod Samples
 pub mod Turns
+pub mod Inner

@@ -1,10 +1,9 @@
 // The check of a whole sheet.
 ghost use Rattle.std.specs.Prelude.{◌≡◌};
-ghost use Rattle.sheet.specs.Sheet.{bad_length, check_at, first_check, first_refused, limited_check, record_check};
-ghost use Rattle.sheet.specs.Sheet.{sheet_check};
+ghost use Rattle.sheet.specs.Sheet.{bad_length, check_at, first_check, first_refused, limited_check, sheet_check};
 
 use crate::Record;
-use crate::offer::record_at;
+use crate::bytes::check_record;
 use refusal::Refusal;
 
 // The length in bytes of the longest sheet.
@@ -13,23 +12,16 @@ pub const MAX_LENGTH: usize = 20_480;
 // The highest limit of a run or a play.
 pub const MAX_LIMIT: u32 = 1_000_000;
 
-// The check of a record: no such command or an unused byte not zero, then a register above 31.
-#[tactic(auto, unfolding(crate::specs::Sheet::record_check))]
-fn check_record(r: Option<Record>) -> Result<(), Refusal>
-    ensures { result ≡ record_check r }
-{
-    match r.ok_or(Refusal::BadCommand)? {
-        Record::Line(i) if !i.in_bounds() => Err(Refusal::BadRegister),
-        _ => Ok(()),
-    }
-}
-
 // The check of record k.
-#[tactic(auto, unfolding(crate::specs::Sheet::check_at))]
+#[tactic(auto, unfolding(crate::specs::Sheet::check_at, crate::specs::Sheet::record_at, crate::specs::Sheet::record_check))]
 fn check_at(sheet: &[u8], k: u32) -> Result<(), Refusal>
     ensures { result ≡ check_at sheet.now k }
 {
-    check_record(record_at(sheet, k))
+    let at = k as usize * Record::SIZE;
+    let Some([c, a, b, d, e]) = sheet.get(at..at + Record::SIZE) else {
+        return Err(Refusal::BadCommand);
+    };
+    check_record(*c, *a, *b, *d, *e)
 }
 
 // The first of so many records that is refused; their number where none is. It answers a number and not an option: that
@@ -46,8 +38,7 @@ pub fn first_refused(sheet: &[u8], count: u32) -> u32
     count
 }
 
-// The check of so many records in order, up to the first that is refused. With `first_refused` in place of a loop of its
-// own the check of a full sheet takes 365 thousand machine instructions, and not 311.
+// The check of so many records in order, up to the first that is refused.
 #[tactic(auto, using(crate::proofs::Refused::passed, crate::proofs::Refused::met), unfolding(crate::specs::Sheet::first_check, crate::specs::Sheet::first_refused))]
 fn first_check(sheet: &[u8], count: u32) -> Result<(), Refusal>
     ensures { result ≡ first_check sheet.now count }
@@ -67,7 +58,9 @@ pub fn bad_length(n: usize) -> bool
 }
 
 // The check of a sheet: its length, then its records. What `as` cuts is at most 4,096; `try_from` would test that again.
+// It is no part of its caller's code: beside a play's loop it makes a played instruction take 8.8 ns, and not 7.3.
 #[tactic(auto, unfolding(crate::specs::Sheet::bad_length, crate::specs::Sheet::sheet_check))]
+#[inline(never)]
 pub fn check(sheet: &[u8]) -> Result<(), Refusal>
     ensures { result ≡ sheet_check sheet.now }
 {

@@ -14,6 +14,7 @@
 #![tactic(auto)]
 
 pub mod answers;
+mod bytes;
 pub mod check;
 pub mod offer;
 mod records;

@@ -25,7 +25,7 @@ fn signed(h: u8, l: u8) -> i16
 
 // Every byte is zero.
 #[tactic(auto, unfolding(crate::specs::Records::zeros))]
-fn zeros(a: u8, b: u8, d: u8, e: u8) -> bool
+pub(crate) fn zeros(a: u8, b: u8, d: u8, e: u8) -> bool
     ensures { result ≡ zeros a b d e }
 {
     a == 0 && b == 0 && d == 0 && e == 0
@@ -150,8 +150,7 @@ fn far_of(c: u8, h: u8, l: u8) -> Instruction
 
 // The record of a command byte and four operand bytes; none where there is no such command or an unused byte is not
 // zero. A command is a byte of the sheet and is read by ranges, as the list of commands has them (RULES 16): no enum
-// stands between it and the instruction, which is one already. By one match over the five bytes the check of a full sheet
-// takes 405 thousand machine instructions, and not 311.
+// stands between it and the instruction, which is one already.
 #[tactic(auto, unfolding(crate::specs::Records::within, crate::specs::Records::record_of))]
 pub(crate) fn record_of(c: u8, a: u8, b: u8, d: u8, e: u8) -> Option<Record>
     ensures { result ≡ record_of c a b d e }
