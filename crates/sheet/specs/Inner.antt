@@ -1,7 +1,9 @@
--- A record's check by its bytes. No public promise or claim rests on it.
-use Rattle.std.specs.Prelude.{ℕ, ◌==◌, nat_lt, Bool, ◌&&◌, ◌||◌, cond, true, Result, Ok, Err, ⊤}
+-- A record's check by its bytes, and by the byte at which it starts. No public promise or claim rests on it.
+use Rattle.std.specs.Prelude.{◌+◌, ℕ, ◌==◌, nat_lt, slice_index, length, Bool, ◌&&◌, ◌||◌, cond, true, List, Result}
+use Rattle.std.specs.Prelude.{Ok, Err, ⊤}
 use Rattle.sheet.specs.Names.{BadCommand, BadRegister, Refusal}
-use Rattle.sheet.specs.Records.{within, zeros}
+use Rattle.sheet.specs.Records.{record_of, within, zeros}
+use Rattle.sheet.specs.Sheet.{record_check}
 
 -- there is such a command, and its unused bytes are zero
 unfoldable pub is_record : ℕ → ℕ → ℕ → ℕ → ℕ → Bool
@@ -27,3 +29,11 @@ in_bounds c a b d =
 -- the check by these two
 abbrev pub check_by : Bool → Bool → Result ⊤ Refusal
 check_by command bounds = cond command (cond bounds (Ok tt) (Err BadRegister)) (Err BadCommand)
+
+-- the check of the record that starts at byte s; fewer than five bytes are no such command
+unfoldable pub check_from : List ℕ → ℕ → Result ⊤ Refusal
+check_from l s =
+    cond (nat_lt (s + 4) (length l))
+    (record_check (record_of (slice_index l s) (slice_index l (s + 1)) (slice_index l (s + 2)) (slice_index l (s + 3))
+    (slice_index l (s + 4))))
+    (Err BadCommand)

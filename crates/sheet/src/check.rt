@@ -1,6 +1,7 @@
 // The check of a whole sheet.
 ghost use Rattle.std.specs.Prelude.{◌≡◌};
-ghost use Rattle.sheet.specs.Sheet.{bad_length, check_at, first_check, first_refused, limited_check, sheet_check};
+ghost use Rattle.sheet.specs.Inner.{check_from};
+ghost use Rattle.sheet.specs.Sheet.{bad_length, first_check, first_refused, limited_check, sheet_check};
 
 use crate::Record;
 use crate::bytes::check_record;
@@ -12,41 +13,43 @@ pub const MAX_LENGTH: usize = 20_480;
 // The highest limit of a run or a play.
 pub const MAX_LIMIT: u32 = 1_000_000;
 
-// The check of record k.
-#[tactic(auto, unfolding(crate::specs::Sheet::check_at, crate::specs::Sheet::record_at, crate::specs::Sheet::record_check))]
-fn check_at(sheet: &[u8], k: u32) -> Result<(), Refusal>
-    ensures { result ≡ check_at sheet.now k }
+// The check of the record that starts at a byte of a sheet. That the sum fits is tested, since any start is taken; in the
+// loop below the compiler leaves this out.
+#[tactic(auto, unfolding(crate::specs::Inner::check_from))]
+fn check_from(sheet: &[u8], start: usize) -> Result<(), Refusal>
+    ensures { result ≡ check_from sheet.now start }
 {
-    let at = k as usize * Record::SIZE;
-    let Some([c, a, b, d, e]) = sheet.get(at..at + Record::SIZE) else {
-        return Err(Refusal::BadCommand);
-    };
-    check_record(*c, *a, *b, *d, *e)
+    let end = start.checked_add(Record::SIZE).ok_or(Refusal::BadCommand)?;
+    match sheet.get(start..end) {
+        Some([c, a, b, d, e]) => check_record(*c, *a, *b, *d, *e),
+        _ => Err(Refusal::BadCommand),
+    }
+}
+
+// The first of so many records that is refused, and its check; their number where none is. A record starts five bytes
+// behind the one before.
+#[tactic(auto, using(crate::proofs::Refused::passed, crate::proofs::Refused::met), unfolding(crate::specs::Sheet::first_check, crate::specs::Sheet::first_refused))]
+fn first_refusal(sheet: &[u8], count: u32) -> (u32, Result<(), Refusal>)
+    ensures number { result.0 ≡ first_refused sheet.now 0 count }
+    ensures check { result.1 ≡ first_check sheet.now count }
+{
+    let mut start = 0;
+    for k in 0..count {
+        let checked = check_from(sheet, start);
+        if checked.is_err() {
+            return (k, checked);
+        }
+        start += Record::SIZE;
+    }
+    (count, Ok(()))
 }
 
 // The first of so many records that is refused; their number where none is. It answers a number and not an option: that
 // number is what is promised of a sheet without one, and the text of a refusal is defined by it (report specs/Refusal).
-#[tactic(auto, using(crate::proofs::Refused::passed), unfolding(crate::specs::Sheet::first_refused))]
 pub fn first_refused(sheet: &[u8], count: u32) -> u32
     ensures { result ≡ first_refused sheet.now 0 count }
 {
-    for k in 0..count {
-        if check_at(sheet, k).is_err() {
-            return k;
-        }
-    }
-    count
-}
-
-// The check of so many records in order, up to the first that is refused.
-#[tactic(auto, using(crate::proofs::Refused::passed, crate::proofs::Refused::met), unfolding(crate::specs::Sheet::first_check, crate::specs::Sheet::first_refused))]
-fn first_check(sheet: &[u8], count: u32) -> Result<(), Refusal>
-    ensures { result ≡ first_check sheet.now count }
-{
-    for k in 0..count {
-        check_at(sheet, k)?;
-    }
-    Ok(())
+    first_refusal(sheet, count).0
 }
 
 // Whether a length is no multiple of 5, or above 20,480 bytes.
@@ -68,7 +71,7 @@ pub fn check(sheet: &[u8]) -> Result<(), Refusal>
     if bad_length(n) {
         return Err(Refusal::BadLength);
     }
-    first_check(sheet, (n / Record::SIZE) as u32)
+    first_refusal(sheet, (n / Record::SIZE) as u32).1
 }
 
 // The same, then the check of a limit.

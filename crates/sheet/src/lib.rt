@@ -3,7 +3,8 @@
 //
 // Wrong programs that the promises rule out, for each function two:
 // - bad_length: 20,480 bytes refused; 20,485 accepted.
-// - check: a register above 31 for a record that has an unused byte not zero too; 20,485 bytes accepted.
+// - check: a register above 31 for a record that has an unused byte not zero too (register_before_unused_byte); each
+//   record started four bytes behind the one before (moves_on_by_four); 20,485 bytes accepted.
 // - first_refused: a record with an unused byte not zero passed over; the last refused record.
 // - check_limited: the limit before the length; a limit of 1,000,000 refused.
 // - offer_at: the second halfword of a pair at its first address; a NOP outside the sheet.
