@@ -1,17 +1,15 @@
 -- One list with a refused tick, a load, a divide and a redirect, and the formula's ticks of its four retirements.
-use Rattle.std.specs.Prelude.{◌/◌, ℕ, pos, slice_index_or, replicate, List, [], ◌∷◌, ◌≡◌, None, Some}
+use Rattle.std.specs.Prelude.{ℕ, pos, replicate, List, [], ◌∷◌, ◌≡◌}
 use Rattle.isa.specs.Machine.{Program, Source, arch_with, program_of, zero_start}
 use Rattle.accuracy.specs.Accuracy.{Run, after, begin}
 use Rattle.accuracy.specs.Asking.{replies}
 use Rattle.accuracy.specs.Count.{path, retire_tick}
-use Rattle.accuracy.specs.Names.{Div, Given, Halt, Jmp, Ld, RawNormal, Unknown}
+use Rattle.accuracy.specs.Names.{Div, Given, Halt, Jmp, Ld}
+use Rattle.accuracy.specs.Samples.{nothing, source_of}
 
 -- LD R1,R0+8; DIV R2,R1,R1; JMP 0; HALT at addresses 0, 4, 8, 12
 unfoldable pub source : Source
-source = record {
-  raw = λ p m. RawNormal (slice_index_or (Ld 1 0 (pos 8) ∷ Div 2 1 1 ∷ Jmp (pos 0) ∷ Halt ∷ []) (p / 4) (Unknown 0 0));
-  table = λ n. Some None;
-}
+source = source_of (Ld 1 0 (pos 8) ∷ Div 2 1 1 ∷ Jmp (pos 0) ∷ Halt ∷ [])
 
 unfoldable pub program : Program
 program = program_of source zero_start
@@ -21,7 +19,7 @@ start = begin zero_start
 
 -- a tick that is refused, then as many as are asked for, each with answer 9
 unfoldable pub ticks : List Given
-ticks = record { offer = None; answer = None; special = None } ∷ replies source (replicate 26 9) start
+ticks = nothing ∷ replies source (replicate 26 9) start
 
 -- the tick of the n-th retirement, by the formula alone
 unfoldable pub due : ℕ → ℕ

@@ -2,5 +2,6 @@ pub mod Names
 pub mod Count
 pub mod Accuracy
 pub mod Asking
+pub mod Samples
 pub mod Example
 pub mod Claims

@@ -2,6 +2,7 @@
 use mathlib.Core.Path.{refl}
 use Rattle.accuracy.specs.Accuracy.{begin, one, one_by}
 use Rattle.accuracy.specs.Asking.{replies}
+use Rattle.accuracy.specs.Samples.{nothing, source_of}
 use Rattle.latch.specs.Memory.{request_in}
 use Rattle.cardlog.specs.Bytes.{access_bytes, bytes, bytes_of, four}
 use Rattle.cardlog.specs.Events.{access_events, cpuid_events, dest_events, retire_events}
@@ -9,7 +10,7 @@ use Rattle.cardlog.specs.Reading.{access_in, entry_in, found_in, moved, read, re
 use Rattle.cardlog.specs.Writing.{fits, laid}
 use Rattle.logging.specs.Logging.{events, fitted, free_by, log_after, log_by, logged, logging_tick, tick_events}
 use Rattle.logs.specs.Logs.{happened, keep, kept, result_of, unless_refused}
-use Rattle.logs.specs.Rows.{Rows, both, card, entries_of, halted, nothing, source_of, start, ticks, twice}
+use Rattle.logs.specs.Rows.{Rows, both, card, entries_of, halted, start, ticks, twice}
 use Rattle.pipeline.proofs.OnLiterals.{pipeline_on_literals}
 use Rattle.pipeline.specs.Tick.{handed_back}
 

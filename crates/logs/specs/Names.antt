@@ -3,8 +3,7 @@ pub use Rattle.isa.specs.declared.Mode.{Mode}
 pub use Rattle.isa.specs.declared.Mode.TheVariants.{Normal}
 pub use Rattle.isa.specs.declared.Start.{Start}
 pub use Rattle.isa.specs.declared.Instruction.{Instruction}
-pub use Rattle.isa.specs.declared.Instruction.TheVariants.{Addi, Cpuid, Div, Halt, Ld, Ldb, St, Stb, Unknown}
-pub use Rattle.isa.specs.declared.RawInstr.TheVariants.{Normal as RawNormal}
+pub use Rattle.isa.specs.declared.Instruction.TheVariants.{Addi, Cpuid, Div, Halt, Ld, Ldb, St, Stb}
 pub use Rattle.isa.specs.declared.Decoded.{Decoded}
 pub use Rattle.isa.specs.declared.Request.{Request}
 pub use Rattle.isa.specs.declared.Request.TheVariants.{Load, Store}

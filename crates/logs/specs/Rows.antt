@@ -1,26 +1,19 @@
 -- RULES 27.7: the rows.
-use Rattle.std.specs.Prelude.{◌/◌, ℕ, pos, replicate, slice_index_or, false, true, List, [], ◌∷◌, ◌≡◌, None, Some}
+use Rattle.std.specs.Prelude.{ℕ, pos, replicate, false, true, List, [], ◌∷◌, ◌≡◌, None, Some}
 use Rattle.std.specs.Prelude.{Ok, Err}
-use Rattle.isa.specs.Machine.{Source}
 use Rattle.latch.specs.Latches.{empty_ex_mem, empty_mem_wb}
 use Rattle.latch.specs.Memory.{request_in, requests}
 use Rattle.accuracy.specs.Accuracy.{begin}
 use Rattle.accuracy.specs.Asking.{replies}
+use Rattle.accuracy.specs.Samples.{nothing, source_of}
 use Rattle.cardlog.specs.Events.{access_events, retire_events}
 use Rattle.cardlog.specs.Reading.{read}
 use Rattle.logs.specs.Logs.{Kept, happened, keep, kept, result_of}
 use Rattle.logs.specs.Names.{Addi, BadEntry, Cpuid, Div, Event, ExMem, Given, Halt, Instruction, Ld, Ldb, Loaded}
-use Rattle.logs.specs.Names.{LogFull, MemWb, Normal, RawNormal, Retired, ShortLog, St, Start, Stb, Stored, Unknown}
+use Rattle.logs.specs.Names.{LogFull, MemWb, Normal, Retired, ShortLog, St, Start, Stb, Stored}
 use Rattle.logs.specs.Names.{Written}
 use Rattle.pipeline.specs.Start.{fresh}
 use Rattle.pipeline.specs.Turn.{reply}
-
--- these instructions at addresses 0, 4 and so on
-unfoldable pub source_of : List Instruction → Source
-source_of is = record {
-  raw = λ p m. RawNormal (slice_index_or is (p / 4) (Unknown 0 0));
-  table = λ n. Some None;
-}
 
 -- registers and address 0, Normal, supervisor; feature word 7
 unfoldable pub start : Start
@@ -37,10 +30,6 @@ card n = record { state = fresh start; log = replicate n 255; free = 0 }
 -- what these ticks write into a log with room
 unfoldable pub entries_of : List Instruction → ℕ → ℕ → List Event
 entries_of is answer n = happened (card 64) (ticks is answer n)
-
--- a tick that is given nothing
-unfoldable pub nothing : Given
-nothing = record { offer = None; answer = None; special = None }
 
 -- a machine that has halted, with a log of n bytes and a first free place
 unfoldable pub halted : ℕ → ℕ → Kept
