@@ -18,13 +18,15 @@ use Rattle.isa.specs.Short.{decoded_of}
 use Rattle.latch.specs.Latches.{empty_if_id, empty_mem_wb}
 use Rattle.latch.specs.Memory.{loads, requests}
 use Rattle.latch.specs.Retire.{halts, is_faulty}
+use Rattle.pipeline.proofs.Resting.{rest_next, rests}
 use Rattle.pipeline.specs.Advance.{advance, move_of, next, resting}
 use Rattle.pipeline.specs.Ask.{asks, fetch_at, fetch_wanted, want_fetch, want_special}
 use Rattle.pipeline.specs.Retire.{retire}
 use Rattle.pipeline.specs.Start.{fresh}
 use Rattle.pipeline.specs.Tick.{fits_offer, raw_of, taken, tick, word_in}
+use Rattle.stages.proofs.Awake.{stopped_asleep}
 use Rattle.stages.specs.Advance.{awake}
-use Rattle.stages.specs.Counting.{count_idle, count_retired}
+use Rattle.stages.specs.Counting.{count_retired}
 use Rattle.stages.specs.Execute.{inquiry_of}
 use Rattle.stages.specs.Fetch.{fetch_place, fetches}
 use Rattle.stages.specs.Loads.{loads_in, want_load}
@@ -223,34 +225,19 @@ module _ (prog : Program) (w₀ : Arch) (len : length w₀.reg ≡ 32) (nought :
         (ap suc clock)))
 
   -- an accepted tick of a machine that has stopped
-  go_rest : (s : PipelineCpu) (x : Taken) → awake s.stages ≡ false → next s x ≡ resting s
-  unfolding next
-  go_rest s x e = ap (λ (b : Bool). cond b (advance (move_of (retire s)) (retire s) x) (resting s)) e
-
-  rest_running : (s : PipelineCpu) → (resting s).stages.running ≡ s.stages.running
-  unfolding resting count_idle
-  rest_running s = refl
-
-  rest_retired : (s : PipelineCpu) → (resting s).counts.instructions_executed ≡ s.counts.instructions_executed
-  unfolding resting count_idle
-  rest_retired s = refl
-
   live_awake : (s : PipelineCpu) → s.stages.running ≡ true → awake s.stages ≡ true
   unfolding awake
   live_awake s e = e
-
-  over_awake : (s : PipelineCpu) → s.stages.running ≡ false → awake s.stages ≡ false
-  unfolding awake
-  over_awake s e = e
 
   idle_over : (r : Run) (t : Given) (s' : PipelineCpu) (left : List ℕ) (k : ℕ) → r.state.stages.running ≡ false →
       r.state.counts.instructions_executed ≡ k → Took r.state t s'
       → Inv (one_by (Ok s') t r) left k
   unfolding one_by
   idle_over r t s' left k e c tk =
-      let h : resting r.state ≡ s' = sym (go_rest r.state (taken t) (over_awake r.state e)) ∙ tk.is in
-      over (ap (λ (x : PipelineCpu). x.stages.running) (sym h) ∙ rest_running r.state ∙ e)
-      (ap (λ (x : PipelineCpu). x.counts.instructions_executed) (sym h) ∙ rest_retired r.state ∙ c)
+      let h : resting r.state ≡ s' =
+      rest_next r.state (stopped_asleep r.state.stages e) (taken t) ∙ tk.is in
+      over (ap (λ (x : PipelineCpu). x.stages.running) (sym h) ∙ (rests r.state).running ∙ e)
+      (ap (λ (x : PipelineCpu). x.counts.instructions_executed) (sym h) ∙ (rests r.state).retired ∙ c)
 
   -- a tick
   pub step_by : (r : Run) (t : Given) (o : Result PipelineCpu Refusal) → tick r.state t ≡ o → (left left' : List ℕ)

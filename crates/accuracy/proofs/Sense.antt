@@ -7,11 +7,12 @@ use native.Mathlib.Omega.{arith}
 use Rattle.std.specs.Prelude.{Err, Ok, Result}
 use Rattle.isa.proofs.Bools.{split}
 use Rattle.isa.specs.Machine.{Arch, Program}
+use Rattle.pipeline.proofs.Resting.{rest_next, rests}
 use Rattle.pipeline.specs.Advance.{advance, move_of, next, resting}
 use Rattle.pipeline.specs.Retire.{retire}
 use Rattle.pipeline.specs.Tick.{taken, tick}
 use Rattle.stages.specs.Advance.{awake}
-use Rattle.stages.specs.Counting.{count_idle, count_retired, counted}
+use Rattle.stages.specs.Counting.{count_retired, counted}
 use Rattle.stages.specs.Retire.{retire_stages}
 use Rattle.word.specs.Words.{bit}
 use Rattle.accuracy.proofs.Took.{advance_retired, took}
@@ -28,9 +29,7 @@ ran s x e = ap
 
 idled : (s : PipelineCpu) (x : Taken) → awake s.stages ≡ false → (next s x).counts.instructions_executed ≡
     s.counts.instructions_executed
-unfolding next resting count_idle
-idled s x e = ap
-    (λ (b : Bool). (cond b (advance (move_of (retire s)) (retire s) x) (resting s)).counts.instructions_executed) e
+idled s x e = rw (sym (rest_next s e x)) (rests s).retired
 
 -- a Boolean counts at most one
 pub bit_le : (b : Bool) → bit b ≤ 1
@@ -75,12 +74,12 @@ unfolding advance counted
 advance_ticks m s x = refl
 
 go_ticks : (s : PipelineCpu) (x : Taken) → (next s x).counts.cycles ≡ s.counts.cycles + 1
-unfolding next retire retire_stages count_retired resting count_idle
+unfolding next retire retire_stages count_retired
 go_ticks s x = split (awake s.stages)
     (λ e. ap (λ (b : Bool). (cond b (advance (move_of (retire s)) (retire s) x) (resting s)).counts.cycles) e
     ∙ advance_ticks
     (move_of (retire s)) (retire s) x)
-    (λ e. ap (λ (b : Bool). (cond b (advance (move_of (retire s)) (retire s) x) (resting s)).counts.cycles) e)
+    (λ e. rw e (rests s).ticks)
 
 ticks_by : (r : Run) (t : Given) (o : Result PipelineCpu Refusal) → tick r.state t ≡ o
     → r.accepted ≡ r.state.counts.cycles → (one_by o t r).accepted ≡ (one_by o t r).state.counts.cycles

@@ -2,7 +2,7 @@
 -- that has done as many instructions as are retired. Assumes nothing.
 use Prim.Native.Nat.{◌≤◌, suc, ℕ}
 use lib.ListN.{get_or, length}
-use mathlib.Core.Bool.{Bool, cond, false, false≢true}
+use mathlib.Core.Bool.{false, false≢true}
 use mathlib.Core.List.{List, [], ◌∷◌}
 use mathlib.Core.Path.{◌∙◌, ◌≡◌, ap, refl, sym}
 use native.Mathlib.Omega.{arith}
@@ -15,12 +15,11 @@ use Rattle.accuracy.proofs.Took.{took}
 use Rattle.accuracy.specs.Accuracy.{Run, after, one, one_by}
 use Rattle.isa.proofs.Bools.{split}
 use Rattle.isa.specs.Machine.{Arch, Machine, Program, machine}
-use Rattle.pipeline.specs.Advance.{advance, move_of, next, resting}
-use Rattle.pipeline.specs.Retire.{retire}
+use Rattle.pipeline.proofs.Resting.{rest_next, rests}
+use Rattle.pipeline.specs.Advance.{resting}
 use Rattle.pipeline.specs.Tick.{taken, tick}
-use Rattle.stages.specs.Advance.{awake}
-use Rattle.stages.specs.Counting.{count_idle}
-use Rattle.agreement.specs.Names.{Given, PipelineCpu, Refusal}
+use Rattle.stages.proofs.Awake.{stopped_asleep}
+use Rattle.agreement.specs.Names.{Given, PipelineCpu, Place, Refusal}
 
 module _ (prog : Program) (w₀ : Arch) (len : length w₀.reg ≡ 32) (nought : get_or w₀.reg 0 0 ≡ 0) where
   -- k instructions are retired, in as many accepted ticks or more
@@ -44,23 +43,20 @@ module _ (prog : Program) (w₀ : Arch) (len : length w₀.reg ≡ 32) (nought :
     within = b;
   }
 
-  -- a machine that has stopped rests
-  rests : (s s' : PipelineCpu) (t : Given) → s.stages.running ≡ false → tick s t ≡ Ok s' → resting s ≡ s'
-  unfolding next awake
-  rests s s' t e q =
-      sym (ap (λ (b : Bool). cond b (advance (move_of (retire s)) (retire s) (taken t)) (resting s)) e)
-      ∙ (took s t s' q).is
-
+  -- a machine that has stopped
   rest_stands : (r : Run) (t : Given) (s' : PipelineCpu) (k : ℕ) → r.state.stages.running ≡ false
       → tick r.state t ≡ Ok s' → Stands r k → Stands (one_by (Ok s') t r) k
-  unfolding one_by resting count_idle
+  unfolding one_by
   rest_stands r t s' k e q h =
-      let z = rests r.state s' t e q in
+      let z : resting r.state ≡ s' =
+      rest_next r.state (stopped_asleep r.state.stages e) (taken t) ∙ (took r.state t s' q).is in
+      let n = rests r.state in
+      let p = ap (λ (s : PipelineCpu). s.stages.retire_at) (sym z) ∙ n.place in
       record {
-        count = ap (λ (s : PipelineCpu). s.counts.instructions_executed) (sym z) ∙ h.count;
-        reg = ap (λ (s : PipelineCpu). s.reg) (sym z) ∙ h.reg;
-        pc = ap (λ (s : PipelineCpu). s.stages.retire_at.pc) (sym z) ∙ h.pc;
-        mode = ap (λ (s : PipelineCpu). s.stages.retire_at.mode) (sym z) ∙ h.mode;
+        count = ap (λ (s : PipelineCpu). s.counts.instructions_executed) (sym z) ∙ n.retired ∙ h.count;
+        reg = ap (λ (s : PipelineCpu). s.reg) (sym z) ∙ n.reg ∙ h.reg;
+        pc = ap (λ (x : Place). x.pc) p ∙ h.pc;
+        mode = ap (λ (x : Place). x.mode) p ∙ h.mode;
         did = h.did;
         within = omega (arith, h.within);
       }

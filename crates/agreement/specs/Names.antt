@@ -1,4 +1,5 @@
 -- The declared types and constructors that this crate names, each under the name that the declaring crate gives it.
+pub use Rattle.isa.specs.declared.Place.{Place}
 pub use Rattle.isa.specs.declared.Start.{Start}
 pub use Rattle.refusal.specs.declared.Refusal.{Refusal}
 pub use Rattle.sheet.specs.declared.End.TheVariants.{Halted}

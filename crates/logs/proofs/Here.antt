@@ -15,6 +15,7 @@ use Rattle.latch.specs.Latches.{empty_mem_wb}
 use Rattle.latch.specs.Memory.{dest_after, mem_wb_of, passed_on, value_after, writes_after}
 use Rattle.logging.specs.Logging.{events, tick_events}
 use Rattle.pipeline.specs.Tick.{tick, word_in}
+use Rattle.stages.proofs.Awake.{stopped_asleep}
 use Rattle.stages.specs.Advance.{awake}
 use Rattle.word.specs.Words.{bit}
 use Rattle.accuracy.proofs.Accuracy.{Inv, Step, step_by}
@@ -80,9 +81,11 @@ module _ (prog : Program) (w₀ : Arch) (len : length w₀.reg ≡ 32) (nought :
 
   here_over : (s : PipelineCpu) (a n : ℕ) → s.stages.running ≡ false → retirements (events s.stages a) ≡ 1
       → Here prog w₀ s.stages a (events s.stages a) n
-  unfolding awake retirements
+  unfolding retirements
   here_over s a n e h =
-      let z : retirements (events s.stages a) ≡ 0 = ap retirements (asleep_events s.stages a e) in absurd (omega arith)
+      let z : retirements (events s.stages a) ≡ 0 =
+      ap retirements (asleep_events s.stages a (stopped_asleep s.stages e)) in
+      absurd (omega arith)
 
   here_by : (o : Result PipelineCpu Refusal) (p : Run) (t : Given) (left : List ℕ) (n : ℕ)
       → Inv prog w₀ len nought p left n → retirements (unless_refused o (tick_events p.state t)) ≡ 1

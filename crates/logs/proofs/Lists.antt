@@ -8,11 +8,12 @@ use Rattle.std.specs.Prelude.{Err, Ok, Option, Result, is_some, option_to_list}
 use Rattle.std.proofs.lemmas.List.Concat.{flat_map-append}
 use Rattle.isa.proofs.Bools.{split}
 use Rattle.logging.specs.Logging.{tick_events}
-use Rattle.pipeline.specs.Advance.{move_of, next, resting}
+use Rattle.pipeline.proofs.Resting.{rests}
+use Rattle.pipeline.specs.Advance.{move_of, next}
 use Rattle.pipeline.specs.Retire.{retire}
 use Rattle.pipeline.specs.Tick.{same, taken, tick, word_in}
 use Rattle.stages.specs.Advance.{awake}
-use Rattle.stages.specs.Counting.{count_idle, count_retired}
+use Rattle.stages.specs.Counting.{count_retired}
 use Rattle.stages.specs.Loads.{want_load}
 use Rattle.word.specs.Words.{bit}
 use Rattle.accuracy.proofs.Took.{advance_retired, answer_is, answer_none, took}
@@ -28,10 +29,10 @@ use Rattle.logs.specs.Names.{Event, Given, PipelineCpu, Refusal, Request}
 -- the retired count behind a tick
 count_next : (s : PipelineCpu) (x : Taken) → (next s x).counts.instructions_executed
     ≡ s.counts.instructions_executed + cond (awake s.stages) (bit s.stages.mem_wb.valid) 0
-unfolding next resting count_idle retire count_retired
+unfolding next retire count_retired
 count_next s x = split (awake s.stages)
     (λ e. rw e (advance_retired (move_of (retire s)) (retire s) x))
-    (λ e. rw e (omega arith))
+    (λ e. rw e (let c = (rests s).retired in omega arith))
 
 -- the answer that a tick gives, where exactly a load has one
 answer_by : (o : Option ℕ) (b : Bool) → same b (is_some o) ≡ true → option_to_list o ≡ cond b (word_in o ∷ []) []

@@ -16,7 +16,8 @@ use Rattle.latch.specs.Retire.{retire_cpuid, retire_reg, retired_regs}
 use Rattle.cardlog.proofs.RoundTrip.{is_taken}
 use Rattle.cardlog.specs.Events.{access_events, cpuid_events, dest_events, retire_events}
 use Rattle.logging.specs.Logging.{events, tick_events}
-use Rattle.pipeline.specs.Advance.{move_of, next, resting}
+use Rattle.pipeline.proofs.Resting.{rests}
+use Rattle.pipeline.specs.Advance.{move_of, next}
 use Rattle.pipeline.specs.Retire.{retire}
 use Rattle.pipeline.specs.Tick.{taken, tick}
 use Rattle.stages.specs.Advance.{awake}
@@ -105,7 +106,7 @@ retire_regs s = same_retire s.stages.mem_wb.valid s.stages.mem_wb s.stages.featu
 
 -- one tick
 same_next : (s : PipelineCpu) (x : Taken) → Same (laid_over (events s.stages x.answer) s.reg) (next s x).reg
-unfolding next resting laid_over accesses
+unfolding next laid_over accesses
 same_next s x = split (awake s.stages)
     (λ e. rw (
       e,
@@ -114,7 +115,7 @@ same_next s x = split (awake s.stages)
       access_none _ x.answer (laid_over (retire_events s.stages.mem_wb s.stages.features) s.reg),
       advance_regs (move_of (retire s)) (retire s) x,
     ) (retire_regs s))
-    (λ e. rw (e, asleep_events s.stages x.answer e))
+    (λ e. rw (e, asleep_events s.stages x.answer e, (rests s).reg))
 
 same_by : (o : Result PipelineCpu Refusal) (r : Run) (t : Given) → tick r.state t ≡ o
     → Same (laid_over (unless_refused o (tick_events r.state t)) r.state.reg) (one_by o t r).state.reg

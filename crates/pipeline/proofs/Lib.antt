@@ -1,3 +1,4 @@
 pub mod Refusing
+pub mod Resting
 pub mod Running
 pub mod OnLiterals

@@ -1,19 +1,13 @@
 -- The refusals that the code computes are those of the definitions' tests. Assumes nothing.
-use mathlib.Core.Bool.{Bool, ◌&&◌, cond, false, not, true}
+use mathlib.Core.Bool.{Bool, cond, false, not, true}
 use mathlib.Core.Path.{◌∙◌, ◌≡◌, ap, refl, sym}
-use Rattle.std.specs.Bool.{then_some}
-use Rattle.std.specs.Prelude.{ℕ, Err, None, Ok, Option, Result, is_some, ⊤}
-use Rattle.latch.specs.Memory.{request_in}
-use Rattle.stages.specs.Advance.{awake}
-use Rattle.stages.specs.Counting.{count_idle, counter_full, unless_full}
-use Rattle.stages.specs.Fetch.{fetches}
-use Rattle.stages.specs.Loads.{loads_in, want_load}
+use Rattle.std.specs.Prelude.{ℕ, Err, Ok, Option, Result, is_some, ⊤}
+use Rattle.stages.specs.Counting.{counter_full}
 use Rattle.stages.specs.Refusals.{faulty, out_of_bounds}
-use Rattle.stages.specs.Retire.{retire_stages}
-use Rattle.pipeline.specs.Advance.{move_of, next, resting}
-use Rattle.pipeline.specs.Ask.{ask, asks, fetch_at, fetch_wanted, want_fetch, want_origins, want_special, wanted}
+use Rattle.pipeline.specs.Advance.{next}
+use Rattle.pipeline.specs.Ask.{ask, wanted}
 use Rattle.pipeline.specs.Inner.{tick_on}
-use Rattle.pipeline.specs.Names.{BadAnswer, Counters, CounterFull, Faulty, Given, OutOfBounds, PipelineCpu, Place}
+use Rattle.pipeline.specs.Names.{BadAnswer, CounterFull, Faulty, Given, OutOfBounds, PipelineCpu, Place}
 use Rattle.pipeline.specs.Names.{Refusal, Wanted}
 use Rattle.pipeline.specs.Parts.{retired}
 use Rattle.pipeline.specs.Refusals.{Tests, and_then, checked, pass, state_tests, test, verdict}
@@ -104,32 +98,3 @@ module _ (s : PipelineCpu) (e : checked (state_tests (faulty s.stages) s) ≡ Ok
   pub retire_passes : (n : PipelineCpu) → n ≡ retire s → Ok n ≡ retired s
   unfolding retired
   retire_passes n en = ap Ok en ∙ sym (all_pass _ _ e)
-
--- nothing moves
-module _ (s : PipelineCpu) (e : awake s.stages ≡ false) where
-  rest_fetch : fetch_wanted s ≡ None
-  unfolding fetch_wanted want_fetch
-  rest_fetch = ap (λ (b : Bool). then_some (b && ((retire s).stages.running && fetches (move_of (retire s)))) (fetch_at s)) e
-
-  rest_load : want_load s.stages ≡ false
-  unfolding want_load
-  rest_load = ap (λ (b : Bool). b && loads_in (retire_stages s.stages)) e
-
-  rest_special : want_special s ≡ None
-  unfolding want_special
-  rest_special = rw e
-
-  pub rest_given : (t : Given) → given_tests None false None t ≡ wanted_tests s t
-  unfolding wanted_tests
-  rest_given t = rw (rest_fetch, rest_load, rest_special)
-
-  pub rest_next : (t : Given) (c : Counters) → c ≡ unless_full s.counts (count_idle s.counts)
-      → counter_full s.counts ≡ false → record { reg = s.reg; stages = s.stages; counts = c } ≡ next s (taken t)
-  unfolding next resting unless_full
-  rest_next t c ec r = rw (ec, r, e)
-
-  -- and nothing is wanted
-  pub rest_wants : (w : Wanted) → w.fetch ≡ None → w.request ≡ None → w.special ≡ None → w.origins ≡ None → w ≡ wanted s
-  unfolding wanted asks want_origins request_in
-  rest_wants w ef eq es eo =
-      (λ i. record { fetch = ef i; request = eq i; special = es i; origins = eo i }) ∙ rw (rest_fetch, rest_special, e)

@@ -16,6 +16,7 @@ use Rattle.latch.specs.Decode.{decode_predicted, id_ex_by, id_ex_of}
 use Rattle.latch.specs.Execute.{effect_from, effect_in, raised_or}
 use Rattle.latch.specs.Latches.{cleared, empty_id_ex}
 use Rattle.latch.specs.Retire.{halts}
+use Rattle.pipeline.proofs.Resting.{rests}
 use Rattle.pipeline.specs.Advance.{advance, move_of, next, resting}
 use Rattle.pipeline.specs.Ask.{fetch_at, want_fetch, want_special}
 use Rattle.pipeline.specs.Retire.{retire}
@@ -104,13 +105,16 @@ advance_without (redirect p) s x w h = record {
   id_ex = nop_not;
 }
 
+rests_without : (s : PipelineCpu) → Without s → Without (resting s)
+rests_without s w = let k = rests s in record { if_id = rw k.if_id w.if_id; id_ex = rw k.id_ex w.id_ex }
+
 goes_without : (s : PipelineCpu) (x : Taken) → Without s → NotMfsr (decoded_of x.raw) → Without (next s x)
-unfolding next resting
+unfolding next
 goes_without s x w h = by (awake s.stages)
   where
     by : (b : Bool) → Without (cond b (advance (move_of (retire s)) (retire s) x) (resting s))
     by true = advance_without (move_of (retire s)) (retire s) x (retire_without s w) h
-    by false = record { if_id = w.if_id; id_ex = w.id_ex }
+    by false = rests_without s w
 
 -- what a source without MFSR offers
 reply_without : (src : Source) → ((p : ℕ) (m : Mode) → NotMfsr (decoded_of (src.raw p m))) → (v : ℕ) (s : PipelineCpu)

@@ -1,3 +1,4 @@
+pub mod Awake
 pub mod Full
 pub mod Loads
 pub mod Moves

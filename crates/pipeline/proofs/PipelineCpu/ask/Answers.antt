@@ -1,7 +1,8 @@
 -- 11, 12 and 13 are tested; then nothing is wanted, or what the tick that moves wants.
 use Rattle.std.proofs.Common.{◌∙◌, sym}
 use Rattle.std.proofs.lemmas.Result.{err_from_is_err_and}
-use Rattle.pipeline.proofs.Refusing.{ask_passes, ask_refuses, rest_wants, state_room}
+use Rattle.pipeline.proofs.Refusing.{ask_passes, ask_refuses, state_room}
+use Rattle.pipeline.proofs.Resting.{rest_wants}
 use Rattle.pipeline.proofs.PipelineCpu.ask.Goals as goal
 
 pub returns-in_err-check : goal.returns-in_err-check
