@@ -1,5 +1,5 @@
 -- RULES 15.6, proved. Assumes nothing.
-use Prim.Native.Nat.{◌+◌, ◌<◌, ◌≤◌, suc, ℕ}
+use Prim.Native.Nat.{◌+◌, ◌-◌, ◌<◌, ◌≤◌, suc, ℕ}
 use borrow.Author.Tests.{ltb-false, ltb-true}
 use lib.Dec.{ltb}
 use lib.ListN.{get_or, length, length-set}
@@ -18,15 +18,15 @@ use Rattle.isa.specs.Short.{decoded_of}
 use Rattle.latch.specs.Latches.{empty_if_id, empty_mem_wb}
 use Rattle.latch.specs.Memory.{loads, requests}
 use Rattle.latch.specs.Retire.{halts, is_faulty}
-use Rattle.pipeline.proofs.Resting.{rest_next, rests}
-use Rattle.pipeline.specs.Advance.{advance, move_of, next, resting}
+use Rattle.pipeline.proofs.Resting.{rest_asks, rest_fetch, rest_load, rest_next, rests, waits_rest}
+use Rattle.pipeline.specs.Advance.{advance, move_of, next, resting, waiting}
 use Rattle.pipeline.specs.Ask.{asks, fetch_at, fetch_wanted, want_fetch, want_special}
 use Rattle.pipeline.specs.Retire.{retire}
 use Rattle.pipeline.specs.Start.{fresh}
-use Rattle.pipeline.specs.Tick.{fits_offer, raw_of, taken, tick, word_in}
-use Rattle.stages.proofs.Awake.{stopped_asleep}
-use Rattle.stages.specs.Advance.{awake}
-use Rattle.stages.specs.Counting.{count_retired}
+use Rattle.pipeline.specs.Tick.{fits_offer, raw_of, taken, tick, wait_of, word_in}
+use Rattle.stages.proofs.Awake.{asleep_waits, awake_free, stopped_asleep}
+use Rattle.stages.specs.Advance.{awake, wait_for_memory, waits_for_memory}
+use Rattle.stages.specs.Counting.{count_retired, counted}
 use Rattle.stages.specs.Execute.{inquiry_of}
 use Rattle.stages.specs.Fetch.{fetch_place, fetches}
 use Rattle.stages.specs.Loads.{loads_in, want_load}
@@ -42,21 +42,23 @@ use Rattle.accuracy.proofs.Offers.{AllMeet, Meets, all_meet}
 use Rattle.accuracy.proofs.Path.{due}
 use Rattle.accuracy.proofs.Timing.{bound, due_time, time_path}
 use Rattle.accuracy.proofs.Took.{Took, advance_regs, advance_retire_mode, advance_retire_pc, advance_retired}
-use Rattle.accuracy.proofs.Took.{advance_running, offer_is, offer_ok, retire_off, took}
+use Rattle.accuracy.proofs.Took.{advance_running, advance_wait, offer_is, offer_ok, retire_off, took, waits_none}
 use Rattle.accuracy.specs.Accuracy.{Demand3, Demand3For, Retires, Run, after, answers, begin, first_offer, first_said}
 use Rattle.accuracy.specs.Accuracy.{offered, one, one_by, said}
 use Rattle.accuracy.specs.Names.{Given, MemWb, Move, PipelineCpu, RawInstr, Refusal, Request, Start, Taken}
 
 module _ (prog : Program) (w₀ : Arch) (len : length w₀.reg ≡ 32) (nought : get_or w₀.reg 0 0 ≡ 0) where
+  -- t: the accepted ticks that moved something; the others, and those still to wait, are the waits told
   pub data Inv (r : Run) (left : List ℕ) (k : ℕ) : Type 0 where
-    live : (n₁ n₂ t : ℕ) → Live prog w₀ r.state t r.requests left k n₁ n₂ → r.accepted ≡ t → Inv r left k
+    live : (n₁ n₂ t : ℕ) → Live prog w₀ r.state t r.requests left k n₁ n₂
+        → r.accepted + r.state.stages.wait_left ≡ t + r.waits → Inv r left k
     over : r.state.stages.running ≡ false → r.state.counts.instructions_executed ≡ k → Inv r left k
 
   -- a tick in which instruction k retires
   pub record Now (r r' : Run) (k : ℕ) : Type 0 where
     pub before : r.state.counts.instructions_executed ≡ k
     pub now : r'.state.counts.instructions_executed ≡ suc k
-    pub at : r'.accepted ≡ due prog w₀ k
+    pub at : r'.accepted ≡ due prog w₀ k + r.waits
     pub reg : r'.state.reg ≡ (machine prog w₀ (suc k)).arch.reg
     pub requests : r.requests ≡ (machine prog w₀ (suc k)).arch.requests
     pub runs : (machine prog w₀ k).runs ≡ true
@@ -70,7 +72,7 @@ module _ (prog : Program) (w₀ : Arch) (len : length w₀.reg ≡ 32) (nought :
 
   finish : (r r' : Run) (left : List ℕ) (l : MemWb) (t k n₁ : ℕ) → Mw prog w₀ t l k n₁
       → r.state.counts.instructions_executed ≡ k → r'.state.counts.instructions_executed ≡ n₁
-      → r'.accepted ≡ suc t
+      → r'.accepted ≡ suc (t + r.waits)
       → r'.state.reg ≡ (walk prog w₀ n₁).reg → PlaceIs prog w₀ r'.state (walk prog w₀ n₁)
       → r.requests ≡ (walk prog w₀ n₁).requests → (machine prog w₀ n₁).arch ≡ walk prog w₀ n₁
       → (machine prog w₀ n₁).done ≡ n₁ → (machine prog w₀ k).runs ≡ true
@@ -100,7 +102,8 @@ module _ (prog : Program) (w₀ : Arch) (len : length w₀.reg ≡ 32) (nought :
 
   -- an accepted tick of a running machine
   module _ (r : Run) (t : Given) (s' : PipelineCpu) (left left' : List ℕ) (k n₁ n₂ t₀ : ℕ)
-      (lv : Live prog w₀ r.state t₀ r.requests left k n₁ n₂) (clock : r.accepted ≡ t₀)
+      (lv : Live prog w₀ r.state t₀ r.requests left k n₁ n₂)
+      (clock : r.accepted + r.state.stages.wait_left ≡ t₀ + r.waits)
       (aw : awake r.state.stages ≡ true) (tk : Took r.state t s')
       (off : Meets prog r.state t)
       (lft : Feeds prog r.state t left left') where
@@ -117,7 +120,13 @@ module _ (prog : Program) (w₀ : Arch) (len : length w₀.reg ≡ 32) (nought :
     x₁ = taken t
 
     abbrev r₁ : Run
-    r₁ = record { state = s'; accepted = suc r.accepted; requests = r.requests ++ asks r.state.stages }
+    r₁ = one_by (Ok s') t r
+
+    -- such a tick is in no wait for the memory
+    no_wait : r.state.stages.wait_left ≡ 0
+    unfolding waits_for_memory
+    no_wait =
+        let h = ltb-false 0 r.state.stages.wait_left (awake_free r.state.stages aw) in omega arith
 
     no_fault : is_faulty r.state.stages.mem_wb ≡ false
     unfolding faulty
@@ -158,10 +167,11 @@ module _ (prog : Program) (w₀ : Arch) (len : length w₀.reg ≡ 32) (nought :
         ∙ split (halts r.state.stages.mem_wb) (λ h. rw h) (λ h. rw h lv.running)
 
     done : Inv r₁ left' n₁ → Step r r₁ left' k
+    unfolding one_by
     done i = finish r r₁ left' r.state.stages.mem_wb t₀ k n₁ lv.mem_wb lv.count
         (ap (λ (x : PipelineCpu). x.counts.instructions_executed) (sym went) ∙ advance_retired (move_of s₁) s₁ x₁
         ∙ count₁)
-        (ap suc clock)
+        (let z = no_wait in omega arith)
         (ap (λ (x : PipelineCpu). x.reg) (sym went) ∙ advance_regs (move_of s₁) s₁ x₁ ∙ regs₁) (
           ap (λ (x : PipelineCpu). x.stages.retire_at.pc) (sym went) ∙ advance_retire_pc (move_of s₁) s₁ x₁
               ∙ place₁.0,
@@ -211,8 +221,15 @@ module _ (prog : Program) (w₀ : Arch) (len : length w₀.reg ≡ 32) (nought :
     unfolding asks retire
     asks₁ = ap (λ (b : Bool). cond b (requests s₁.stages.ex_mem) []) aw
 
+    clock₁ : r₁.accepted + s'.stages.wait_left ≡ suc t₀ + r₁.waits
+    unfolding one_by taken
+    clock₁ =
+        let p : s'.stages.wait_left ≡ wait_of t = ap (λ (x : PipelineCpu). x.stages.wait_left) (sym went)
+        ∙ advance_wait (move_of s₁) s₁ x₁ in
+        let z = no_wait in omega arith
+
     accepted : Step r r₁ left' k
-    unfolding taken
+    unfolding one_by taken
     accepted = split (halts r.state.stages.mem_wb)
         (λ h. done (over (ap (λ (x : PipelineCpu). x.stages.running) (sym went) ∙ advance_running (move_of s₁) s₁ x₁ ∙
         retire_off r.state h)
@@ -222,13 +239,9 @@ module _ (prog : Program) (w₀ : Arch) (len : length w₀.reg ≡ 32) (nought :
         let mid = retire_live prog w₀ len nought r.state t₀ r.requests left k n₁ n₂ lv no_fault h in
         let x = next_live prog w₀ len nought s₁ t₀ r.requests left n₁ n₂ mid x₁ hv (hi mid.running) hc in
         done (live n₂ x.0 (suc t₀) (to_live _ _ _ _ _ _ _ _ r.requests _ _ went asks₁ left_on x.1)
-        (ap suc clock)))
+        clock₁))
 
   -- an accepted tick of a machine that has stopped
-  live_awake : (s : PipelineCpu) → s.stages.running ≡ true → awake s.stages ≡ true
-  unfolding awake
-  live_awake s e = e
-
   idle_over : (r : Run) (t : Given) (s' : PipelineCpu) (left : List ℕ) (k : ℕ) → r.state.stages.running ≡ false →
       r.state.counts.instructions_executed ≡ k → Took r.state t s'
       → Inv (one_by (Ok s') t r) left k
@@ -239,6 +252,45 @@ module _ (prog : Program) (w₀ : Arch) (len : length w₀.reg ≡ 32) (nought :
       over (ap (λ (x : PipelineCpu). x.stages.running) (sym h) ∙ (rests r.state).running ∙ e)
       (ap (λ (x : PipelineCpu). x.counts.instructions_executed) (sym h) ∙ (rests r.state).retired ∙ c)
 
+  -- one in a wait for the memory: nothing that the invariant speaks of is touched
+  waiting_live : (s : PipelineCpu) (t : ℕ) (asked : List Request) (left : List ℕ) (k n₁ n₂ : ℕ)
+      → Live prog w₀ s t asked left k n₁ n₂ → Live prog w₀ (waiting s) t asked left k n₁ n₂
+  unfolding waiting wait_for_memory counted
+  waiting_live s t asked left k n₁ n₂ l = record {
+    running = l.running;
+    features = l.features;
+    user = l.user;
+    count = l.count;
+    reg = l.reg;
+    place = l.place;
+    mem_wb = l.mem_wb;
+    ex_mem = l.ex_mem;
+    front = l.front;
+    asks = l.asks;
+    answers = l.answers;
+    runs = l.runs;
+  }
+
+  waited : (r : Run) (t : Given) (s' : PipelineCpu) (left left' : List ℕ) (k n₁ n₂ t₀ : ℕ)
+      → Live prog w₀ r.state t₀ r.requests left k n₁ n₂
+      → r.accepted + r.state.stages.wait_left ≡ t₀ + r.waits → awake r.state.stages ≡ false → Took r.state t s'
+      → Feeds prog r.state t left left' → Step r (one_by (Ok s') t r) left' k
+  unfolding waiting wait_for_memory waits_for_memory one_by
+  waited r t s' left left' k n₁ n₂ t₀ lv clock f tk lft =
+      let z = asleep_waits r.state.stages lv.running f in
+      let h : waiting r.state ≡ s' = waits_rest r.state z ∙ rest_next r.state f (taken t) ∙ tk.is in
+      let p : s'.stages.wait_left ≡ r.state.stages.wait_left - 1 =
+      ap (λ (x : PipelineCpu). x.stages.wait_left) (sym h) in
+      let c = ltb-true 0 r.state.stages.wait_left z in
+      let w = waits_none r.state t s' tk (rest_fetch r.state f) (rest_load r.state f) in
+      quiet (live n₁ n₂ t₀ (to_live _ _ _ left left' _ _ _ r.requests (asks r.state.stages) [] h
+      (rest_asks r.state f)
+      (sym (lft.next ∙ ap (λ (b : Bool). cond b (rest left) left) (rest_load r.state f)))
+      (subst (λ (x : List Request). Live prog w₀ (waiting r.state) t₀ x left k n₁ n₂)
+      (sym (append-nil r.requests)) (waiting_live r.state t₀ r.requests left k n₁ n₂ lv)))
+      (omega arith))
+      (λ e. ap (λ (x : PipelineCpu). x.stages.running) (sym h) ∙ e)
+
   -- a tick
   pub step_by : (r : Run) (t : Given) (o : Result PipelineCpu Refusal) → tick r.state t ≡ o → (left left' : List ℕ)
       (k : ℕ) → Inv r left k
@@ -247,8 +299,9 @@ module _ (prog : Program) (w₀ : Arch) (len : length w₀.reg ≡ 32) (nought :
   unfolding FeedsBy one_by
   step_by r t (Err c) e left left' k i off lft = quiet (subst (λ (x : List ℕ). Inv r x k) lft i) (λ z. z)
   step_by r t (Ok s') e left left' k (live n₁ n₂ t₀ lv clock) off lft =
-      accepted r t s' left left' k n₁ n₂ t₀ lv clock (live_awake r.state lv.running) (took r.state t s' e)
-      (off s' refl) lft
+      split (awake r.state.stages)
+      (λ f. accepted r t s' left left' k n₁ n₂ t₀ lv clock f (took r.state t s' e) (off s' refl) lft)
+      (λ f. waited r t s' left left' k n₁ n₂ t₀ lv clock f (took r.state t s' e) lft)
   step_by r t (Ok s') e left left' k (over ru c) off lft =
       quiet (idle_over r t s' left' k ru c (took r.state t s' e)) (λ z. absurd (false≢true (sym ru ∙ z)))
 
@@ -282,7 +335,7 @@ module _ (prog : Program) (w₀ : Arch) (len : length w₀.reg ≡ 32) (nought :
     split = refl;
     before = ap suc x.before;
     now = x.now;
-    due = x.at ∙ due_time prog w₀ k ∙ sym (time_path prog w₀ k x.did);
+    due = x.at ∙ ap (λ (d : ℕ). d + r.waits) (due_time prog w₀ k ∙ sym (time_path prog w₀ k x.did));
     soon = let b = bound prog w₀ k in let a = x.at in omega arith;
     reg = x.reg;
     did = x.did;
@@ -341,7 +394,7 @@ pub demand3_fed : (prog : Program) (v : Start) → v.user ≡ prog.user → v.fe
     → Fed prog (begin v) l ts
     → (N : ℕ) → 1 ≤ N → N ≤ (after (begin v) ts).state.counts.instructions_executed
     → Retires prog (arch_with v l) (begin v) ts N
-unfolding begin arch_with
+unfolding begin arch_with fresh
 demand3_fed prog v eu ef len ts l off fe N one≤ le =
     all prog (arch_with v l) (length-set v.reg 0 0 ∙ len) (get_or-set_same v.reg 0 0 0 (omega arith)) ts
     (begin v) 0 l

@@ -13,7 +13,7 @@ use Rattle.latch.specs.Memory.{request_in, requests}
 use Rattle.pipeline.specs.Advance.{next}
 use Rattle.pipeline.specs.Ask.{ask, asks, fetch_at, fetch_wanted, want_fetch, want_origins, wanted}
 use Rattle.pipeline.specs.Refusals.{Tests, and_then, pass, state_tests, test, verdict}
-use Rattle.pipeline.specs.Tick.{fits_offer, fits_special, ok_offer, same, taken, tests, tick}
+use Rattle.pipeline.specs.Tick.{bad_wait, fits_offer, fits_special, ok_offer, same, taken, tests, tick}
 use Rattle.stages.specs.Advance.{awake}
 use Rattle.stages.specs.Counting.{counter_full}
 use Rattle.stages.specs.Loads.{loads_in, want_load}
@@ -21,7 +21,7 @@ use Rattle.stages.specs.Refusals.{faulty, out_of_bounds}
 use Rattle.stages.specs.Retire.{retire_stages}
 use Rattle.accuracy.proofs.Passed.{Passed, passed}
 use Rattle.accuracy.proofs.Shows.{hides, shows}
-use Rattle.accuracy.proofs.Took.{takes, took}
+use Rattle.accuracy.proofs.Took.{none_fits, takes, took}
 use Rattle.accuracy.specs.Accuracy.{Run, offered, offered_by, one, one_by, said, said_by}
 use Rattle.accuracy.specs.Asking.{Asking, Gives, is_load}
 use Rattle.accuracy.specs.Names.{Given, Mode, Nop, Normal, Origins, PipelineCpu, Place, RawInstr, RawNormal, RawShort}
@@ -103,6 +103,9 @@ accepts s w t e g =
       is_load = is_same _ _
           (g.answer ∙ ap (λ (x : Wanted). is_load x.request) (sym k.is) ∙ wants_load_lem s.stages);
       special = is_same _ _ (g.special ∙ ap (λ (x : Wanted). is_some x.special) (sym k.is));
+      fetch_wait = ap (λ (x : Wanted). bad_wait (is_some x.fetch) t.fetch_wait) k.is ∙ g.fetch_wait;
+      load_wait = ap (λ (b : Bool). bad_wait b t.load_wait)
+          (sym (wants_load_lem s.stages) ∙ ap (λ (x : Wanted). is_load x.request) k.is) ∙ g.load_wait;
       is = refl;
     })
 
@@ -118,6 +121,9 @@ gives s s' w t e h =
       answer = same_is _ _ x.is_load ∙ sym (wants_load_lem s.stages)
           ∙ ap (λ (x : Wanted). is_load x.request) k.is;
       special = same_is _ _ x.special ∙ ap (λ (x : Wanted). is_some x.special) k.is;
+      fetch_wait = ap (λ (x : Wanted). bad_wait (is_some x.fetch) t.fetch_wait) (sym k.is) ∙ x.fetch_wait;
+      load_wait = ap (λ (b : Bool). bad_wait b t.load_wait)
+          (ap (λ (x : Wanted). is_load x.request) (sym k.is) ∙ wants_load_lem s.stages) ∙ x.load_wait;
     }
 
 -- a list's requests grow by the one that is wanted
@@ -196,9 +202,22 @@ special_for q = option_map (λ n. None) q
 -- these give what is wanted
 given_for : (f : Option Place) (q : Option Request) (i : Option ℕ) (o : Option Origins)
     → Gives (record { fetch = f; request = q; special = i; origins = o })
-    (record { offer = offer_for f; answer = answer_for_lem q; special = special_for i })
+    (record {
+      offer = offer_for f;
+      answer = answer_for_lem q;
+      special = special_for i;
+      fetch_wait = 0;
+      load_wait = 0;
+    })
 unfolding offer_for answer_for_lem special_for fits_offer ok_offer
-given_for f q i o = record { offer = fit f; fair = coded f; answer = ans (is_load q); special = spe i }
+given_for f q i o = record {
+  offer = fit f;
+  fair = coded f;
+  answer = ans (is_load q);
+  special = spe i;
+  fetch_wait = none_fits (is_some f);
+  load_wait = none_fits (is_load q);
+}
   where
     fit : (f : Option Place) → fits_offer f (offer_for f) ≡ true
     fit None = refl
@@ -224,6 +243,8 @@ asking = record {
       offer = offer_for w.fetch;
       answer = answer_for_lem w.request;
       special = special_for w.special;
+      fetch_wait = 0;
+      load_wait = 0;
     },
     given_for w.fetch w.request w.special w.origins,
   );

@@ -20,11 +20,12 @@ use Rattle.latch.specs.Execute.{effect_from, effect_in, ex_mem_of, raised_or}
 use Rattle.latch.specs.Latches.{cleared, empty_ex_mem, empty_id_ex, empty_if_id, empty_mem_wb}
 use Rattle.latch.specs.Memory.{dest_after, loads, mem_wb_of, passed_on, stores, value_after, writes_after}
 use Rattle.latch.specs.Retire.{halts}
-use Rattle.pipeline.specs.Advance.{advance, move_of, next, resting}
+use Rattle.pipeline.specs.Advance.{advance, idle, move_of, next, resting, waiting}
 use Rattle.pipeline.specs.Retire.{retire}
 use Rattle.pipeline.specs.Start.{fresh}
 use Rattle.pipeline.specs.Tick.{ok_offer, raw_of, taken, tick}
 use Rattle.stages.specs.Advance.{advance_by, advance_stages, awake, id_ex_after, if_id_after, place_after, wait_after}
+use Rattle.stages.specs.Advance.{wait_for_memory, waits_for_memory}
 use Rattle.stages.specs.Counting.{counted, flushes, stalls}
 use Rattle.stages.specs.Execute.{effect_for, executed, executed_by}
 use Rattle.stages.specs.Fetch.{fetch_from, fetch_place, fetched, next_id_ex, place_or}
@@ -32,7 +33,7 @@ use Rattle.stages.specs.Move.{is_wait, next_ex_mem}
 use Rattle.stages.specs.Refusals.{out_of_bounds}
 use Rattle.stages.specs.Retire.{retire_stages}
 use Rattle.accuracy.proofs.Instructions.{dest_in, short_ok, sources_in, waits_in, width_in}
-use Rattle.accuracy.proofs.Took.{took}
+use Rattle.accuracy.proofs.Took.{took, waits_told}
 use Rattle.accuracy.specs.Names.{Effect, ExMem, Exception, Given, IdEx, IfId, Mode, Move, PipelineCpu, Place}
 use Rattle.accuracy.specs.Names.{RawInstr, RawNormal, RawShort, Stages, Start, Taken, begin_wait, keep_waiting}
 use Rattle.accuracy.specs.Names.{load_use_stall, proceed, redirect}
@@ -44,6 +45,7 @@ pub record Within (l : Stages) : Type 0 where
   pub ex_mem : bad_ex_mem l.ex_mem ≡ false
   pub mem_wb : bad_mem_wb l.mem_wb ≡ false
   pub wait : l.ex_cycles_left ≤ 15
+  pub left : l.wait_left ≤ 2000
 
 pub within : (l : Stages) → out_of_bounds l ≡ false → Within l
 unfolding out_of_bounds
@@ -52,11 +54,21 @@ within l e =
     let b = or_parts (bad_id_ex l.id_ex) _ a.1 in
     let c = or_parts (bad_ex_mem l.ex_mem) _ b.1 in
     let d = or_parts (bad_mem_wb l.mem_wb) _ c.1 in
-    record { if_id = a.0; id_ex = b.0; ex_mem = c.0; mem_wb = d.0; wait = ltb-false 15 l.ex_cycles_left d.1 }
+    let f = or_parts (ltb 15 l.ex_cycles_left) _ d.1 in
+    record {
+      if_id = a.0;
+      id_ex = b.0;
+      ex_mem = c.0;
+      mem_wb = d.0;
+      wait = ltb-false 15 l.ex_cycles_left f.0;
+      left = ltb-false 2000 l.wait_left f.1;
+    }
 
 pub in_bounds : (l : Stages) → Within l → out_of_bounds l ≡ false
 unfolding out_of_bounds
-in_bounds l w = rw (w.if_id, w.id_ex, w.ex_mem, w.mem_wb) (le-ltb 15 l.ex_cycles_left w.wait)
+in_bounds l w =
+    rw (w.if_id, w.id_ex, w.ex_mem, w.mem_wb, le-ltb 15 l.ex_cycles_left w.wait)
+    (le-ltb 2000 l.wait_left w.left)
 
 -- operands in bounds
 over : (n : ℕ) → ltb n 32 ≡ true → ltb 31 n ≡ false
@@ -171,7 +183,7 @@ wait_in : (b : Bool) (n : ℕ) → n ≤ 15 → cond b 0 n ≤ 15
 wait_in true n h = omega arith
 wait_in false n h = h
 
--- retirement, each move, a tick of a machine that has stopped
+-- retirement, each move, a tick that moves nothing
 pub retire_in : (l : Stages) → Within l → Within (retire_stages l)
 unfolding retire_stages
 retire_in l w = split (halts l.mem_wb)
@@ -182,6 +194,7 @@ retire_in l w = split (halts l.mem_wb)
           empty_ex_mem_lem;
       mem_wb = w.mem_wb;
       wait = rw e (omega arith);
+      left = w.left;
     })
     (λ e. record {
       if_id = rw e w.if_id;
@@ -190,34 +203,38 @@ retire_in l w = split (halts l.mem_wb)
       mem_wb =
           w.mem_wb;
       wait = rw e w.wait;
+      left = w.left;
     })
 
-advance_in : (m : Move) (s : PipelineCpu) (x : Taken) → Within s.stages → ok_raw x.raw ≡ true
+advance_in : (m : Move) (s : PipelineCpu) (x : Taken) → Within s.stages → ok_raw x.raw ≡ true → x.wait ≤ 2000
     → Within (advance m s x).stages
 unfolding advance advance_by advance_stages id_ex_after if_id_after is_wait wait_after place_after counted stalls
     flushes place_or fetch_from next_ex_mem
-advance_in keep_waiting s y w h = record {
+advance_in keep_waiting s y w h n = record {
   if_id = w.if_id;
   id_ex = w.id_ex;
   ex_mem = empty_ex_mem_lem;
   mem_wb = memory_in s.stages.ex_mem y.answer w.ex_mem;
   wait = let k = w.wait in omega arith;
+  left = n;
 }
-advance_in begin_wait s y w h = record {
+advance_in begin_wait s y w h n = record {
   if_id = w.if_id;
   id_ex = w.id_ex;
   ex_mem = empty_ex_mem_lem;
   mem_wb = memory_in s.stages.ex_mem y.answer w.ex_mem;
   wait = waits_in s.stages.id_ex.decoded;
+  left = n;
 }
-advance_in (load_use_stall g) s y w h = record {
+advance_in (load_use_stall g) s y w h n = record {
   if_id = held_in (is_some g) s.stages.if_id w.if_id;
   id_ex = empty_id_ex_lem;
   ex_mem = execute_in s y.special w.id_ex;
   mem_wb = memory_in s.stages.ex_mem y.answer w.ex_mem;
   wait = wait_in s.stages.ex_armed _ w.wait;
+  left = n;
 }
-advance_in proceed s y w h = record {
+advance_in proceed s y w h n = record {
   if_id = fetched_in s.stages.running s.stages.if_id (fetch_place proceed s.stages) y.raw
       w.if_id h;
   id_ex = next_in
@@ -226,8 +243,9 @@ advance_in proceed s y w h = record {
   mem_wb = memory_in s.stages.ex_mem y.answer w.ex_mem;
   wait =
       wait_in s.stages.ex_armed _ w.wait;
+  left = n;
 }
-advance_in (redirect t) s y w h = record {
+advance_in (redirect t) s y w h n = record {
   if_id = cleared_in _
       (fetched_in s.stages.running s.stages.if_id (fetch_place (redirect t) s.stages) y.raw w.if_id h);
   id_ex = empty_id_ex_lem;
@@ -235,16 +253,36 @@ advance_in (redirect t) s y w h = record {
   mem_wb = memory_in s.stages.ex_mem y.answer w.ex_mem;
   wait =
       wait_in s.stages.ex_armed _ w.wait;
+  left = n;
 }
 
-pub step_in : (s : PipelineCpu) (x : Taken) → Within s.stages → ok_raw x.raw ≡ true
+waiting_in : (s : PipelineCpu) → Within s.stages → Within (waiting s).stages
+unfolding waiting wait_for_memory
+waiting_in s w = record {
+  if_id = w.if_id;
+  id_ex = w.id_ex;
+  ex_mem = w.ex_mem;
+  mem_wb = w.mem_wb;
+  wait = w.wait;
+  left = (let k = w.left in omega arith);
+}
+
+resting_in : (s : PipelineCpu) → Within s.stages → Within (resting s).stages
+unfolding resting idle
+resting_in s w = by (waits_for_memory s.stages)
+  where
+    by : (b : Bool) → Within (cond b (waiting s) (idle s)).stages
+    by true = waiting_in s w
+    by false = w
+
+pub step_in : (s : PipelineCpu) (x : Taken) → Within s.stages → ok_raw x.raw ≡ true → x.wait ≤ 2000
     → Within (next s x).stages
-unfolding next resting retire
-step_in s x w h = by (awake s.stages)
+unfolding next retire
+step_in s x w h n = by (awake s.stages)
   where
     by : (b : Bool) → Within (cond b (advance (move_of (retire s)) (retire s) x) (resting s)).stages
-    by true = advance_in (move_of (retire s)) (retire s) x (retire_in s.stages w) h
-    by false = w
+    by true = advance_in (move_of (retire s)) (retire s) x (retire_in s.stages w) h n
+    by false = resting_in s w
 
 offer_in_lem : (o : Option RawInstr) → ok_offer o ≡ true → ok_raw (raw_of o) ≡ true
 unfolding ok_offer raw_of ok_raw ok_instruction ok_operands operands_n bare plain ok_dest
@@ -256,7 +294,7 @@ unfolding taken
 tick_in s t s' e =
     let k = took s t s' e in
     in_bounds s'.stages (subst (λ (x : PipelineCpu). Within x.stages) k.is
-    (step_in s (taken t) (within s.stages k.bounds) (offer_in_lem t.offer k.fair)))
+    (step_in s (taken t) (within s.stages k.bounds) (offer_in_lem t.offer k.fair) (waits_told s t s' k)))
 
 pub fresh_in : (v : Start) → out_of_bounds (fresh v).stages ≡ false
 unfolding fresh out_of_bounds bad_if_id bad_id_ex bad_ex_mem bad_mem_wb ok_raw ok_decoded ok_instruction bad_width

@@ -10,6 +10,7 @@ use Rattle.accuracy.proofs.Forwarding.{fwd_writes}
 use Rattle.accuracy.proofs.Offers.{first_agrees, first_says, source_agrees, source_says}
 use Rattle.accuracy.proofs.Origins.{from_origins}
 use Rattle.accuracy.proofs.Sense.{numbered, only_tick}
+use Rattle.accuracy.proofs.Waits.{wait_rows}
 use Rattle.accuracy.specs.Accuracy.{Run, one, one_by}
 use Rattle.accuracy.specs.Claims.{Claims}
 use Rattle.accuracy.specs.Names.{Given, PipelineCpu, Refusal}
@@ -47,4 +48,5 @@ claims = record {
   forwarding = fwd_writes;
   origins = from_origins;
   example = example;
+  waits = wait_rows;
 }

@@ -16,4 +16,5 @@ pub mod Forwarding
 pub mod Origins
 pub mod Asking
 pub mod Example
+pub mod Waits
 pub mod Claims

@@ -20,7 +20,7 @@ use Rattle.accuracy.proofs.Took.{took}
 use Rattle.accuracy.specs.Asking.{Executes}
 use Rattle.accuracy.specs.Names.{ExMem, Given, Origins, PipelineCpu}
 
--- origins p are shown as o only in a running machine (a) that does not wait (w), of a valid latch (v)
+-- origins p are shown as o only in a tick that moves (a), in no wait in EX (w), of a valid latch (v)
 record Tells (a w v : Bool) (p o : Origins) : Type 0 where
   awake : a ≡ true
   moves : w ≡ false
@@ -34,7 +34,7 @@ tells true true v p o e = record { awake = cc; moves = cc; valid = cc; is = cc }
 tells true false false p o e = record { awake = cc; moves = cc; valid = cc; is = cc }
 tells true false true p o e = record { awake = refl; moves = refl; valid = refl; is = cc }
 
--- none are shown in a running machine only where it waits or the latch is invalid: EX/MEM x is then empty
+-- none are shown in a tick that moves only in a wait in EX or where the latch is invalid: EX/MEM x is then empty
 empties : (a w v : Bool) (p : Origins) (x : ExMem) → a ≡ true
     → cond a (cond (w || not v) None (Some p)) None ≡ None
     → cond w empty_ex_mem (cond v x empty_ex_mem) ≡ empty_ex_mem
@@ -44,7 +44,7 @@ empties true false false p x r e = refl
 empties true false true p x r e = cc
 
 module _ (s s' : PipelineCpu) (t : Given) where
-  -- the EX/MEM that a running machine's tick leaves
+  -- the EX/MEM that a tick that moves leaves
   left : tick s t ≡ Ok s' → awake s.stages ≡ true
       → let s₁ = retire s in
       s'.stages.ex_mem ≡ next_ex_mem (move_of s₁) s₁.stages s₁.reg t.special
@@ -69,9 +69,9 @@ module _ (s s' : PipelineCpu) (t : Given) where
       let f = rw (k.awake, k.moves, k.valid) at x.special in
       rw (in_bounds _ b, b.id_ex, f, left h k.awake, k.moves, k.valid, k.is)
 
-  pub hides : want_origins s ≡ None → tick s t ≡ Ok s' → s.stages.running ≡ true
+  pub hides : want_origins s ≡ None → tick s t ≡ Ok s' → awake s.stages ≡ true
       → s'.stages.ex_mem ≡ empty_ex_mem
-  unfolding want_origins origins_in next_ex_mem executed executed_by awake
+  unfolding want_origins origins_in next_ex_mem executed executed_by
   hides e h r =
       let s₁ = retire s in
       let d = s₁.stages.id_ex in

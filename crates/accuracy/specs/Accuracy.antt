@@ -5,22 +5,27 @@ use Rattle.isa.specs.Machine.{Arch, Program, arch_with, machine, whole_program}
 use Rattle.isa.specs.Short.{decoded_of}
 use Rattle.pipeline.specs.Ask.{asks, fetch_at, want_special}
 use Rattle.pipeline.specs.Start.{fresh}
-use Rattle.pipeline.specs.Tick.{tick}
+use Rattle.pipeline.specs.Tick.{tick, wait_of}
 use Rattle.accuracy.specs.Count.{path, retire_tick}
 use Rattle.accuracy.specs.Names.{DecNormal, Decoded, Given, Mode, Nop, Normal, PipelineCpu, Place, RawInstr, Refusal}
 use Rattle.accuracy.specs.Names.{Request, Short, Start}
 
--- a list of ticks so far: the state handed back, the accepted ticks, the requests asked for in them
+-- a list of ticks so far: the state handed back, the accepted ticks, the requests asked for and the waits told in them
 pub record Run : Type 0 where
   pub state : PipelineCpu
   pub accepted : ℕ
   pub requests : List Request
+  pub waits : ℕ
 
 -- one tick more: a refused one has no number and changes nothing
 unfoldable pub one_by : Result PipelineCpu Refusal → Given → Run → Run
 one_by (Err c) t r = r
-one_by (Ok s) t r =
-    record { state = s; accepted = suc r.accepted; requests = r.requests ++ asks r.state.stages }
+one_by (Ok s) t r = record {
+  state = s;
+  accepted = suc r.accepted;
+  requests = r.requests ++ asks r.state.stages;
+  waits = r.waits + wait_of t;
+}
 
 unfoldable pub one : Run → Given → Run
 one r t = one_by (tick r.state t) t r
@@ -88,11 +93,12 @@ first_said (x ∷ l) n = cond (n == x.0) x.1 (first_said l n)
 
 -- the run before its first tick
 unfoldable pub begin : Start → Run
-begin v = record { state = fresh v; accepted = 0; requests = [] }
+begin v = record { state = fresh v; accepted = 0; requests = []; waits = 0 }
 
 -- The N-th retirement in a list: the tick `here` raises the retired count from N - 1 to N. Its number is exact and
--- at most 16N + 4; the registers after it are the machine's after N instructions, all done; the requests of earlier
--- accepted ticks are the machine's by then; and the retire place is the machine's.
+-- at most 16N + 4, but for the waits told in earlier accepted ticks, which are added to both; the registers after it
+-- are the machine's after N instructions, all done; the requests of earlier accepted ticks are the machine's by then;
+-- and the retire place is the machine's.
 pub record Retires (prog : Program) (w : Arch) (r : Run) (ts : List Given) (N : ℕ) : Type 0 where
   pub pre : List Given
   pub here : Given
@@ -100,8 +106,8 @@ pub record Retires (prog : Program) (w : Arch) (r : Run) (ts : List Given) (N : 
   pub split : ts ≡ pre ++ here ∷ post
   pub before : suc (after r pre).state.counts.instructions_executed ≡ N
   pub now : (one (after r pre) here).state.counts.instructions_executed ≡ N
-  pub due : (one (after r pre) here).accepted ≡ retire_tick prog (λ n. path prog w n) N
-  pub soon : (one (after r pre) here).accepted ≤ 16 * N + 4
+  pub due : (one (after r pre) here).accepted ≡ retire_tick prog (λ n. path prog w n) N + (after r pre).waits
+  pub soon : (one (after r pre) here).accepted ≤ 16 * N + 4 + (after r pre).waits
   pub reg : (one (after r pre) here).state.reg ≡ (machine prog w N).arch.reg
   pub did : (machine prog w N).done ≡ N
   pub requests : (after r pre).requests ≡ (machine prog w N).arch.requests

@@ -8,8 +8,9 @@ use Rattle.pipeline.specs.Advance.{next}
 use Rattle.pipeline.specs.Ask.{ask}
 use Rattle.pipeline.specs.Parts.{execute_part}
 use Rattle.pipeline.specs.Retire.{retire}
-use Rattle.pipeline.specs.Tick.{fits_offer, ok_offer, taken, tick}
+use Rattle.pipeline.specs.Tick.{bad_wait, fits_offer, ok_offer, taken, tick}
 use Rattle.pipeline.specs.Turn.{reply}
+use Rattle.stages.specs.Advance.{awake}
 use Rattle.stages.specs.Execute.{effect_for}
 use Rattle.accuracy.specs.Accuracy.{Run, offered, one, said}
 use Rattle.accuracy.specs.Names.{ExMem, Given, Load, Origins, PipelineCpu, Place, RawInstr, Refusal, Request, Store}
@@ -21,13 +22,15 @@ is_load None = false
 is_load (Some (Load a w)) = true
 is_load (Some (Store a w v)) = false
 
--- a tick with the offer that is wanted, which 1 does not refuse, an answer exactly where a load is wanted, and something
--- said exactly where a special register is asked for
+-- a tick with the offer that is wanted, which 1 does not refuse, an answer exactly where a load is wanted, something
+-- said exactly where a special register is asked for, and waits of which 24 refuses none
 pub record Gives (w : Wanted) (t : Given) : Type 0 where
   pub offer : fits_offer w.fetch t.offer ≡ true
   pub fair : ok_offer t.offer ≡ true
   pub answer : is_some t.answer ≡ is_load w.request
   pub special : is_some t.special ≡ is_some w.special
+  pub fetch_wait : bad_wait (is_some w.fetch) t.fetch_wait ≡ false
+  pub load_wait : bad_wait (is_load w.request) t.load_wait ≡ false
 
 -- execution by itself, called with ID/EX once MEM/WB has retired, gives EX/MEM x and the origins o; c: what it is told
 abbrev pub Executes : PipelineCpu → Option (Option ℕ) → ExMem → Origins → Type 0
@@ -57,9 +60,9 @@ pub record Asking : Type 0 where
   -- the origins shown are those that execution by itself passes on, and it gives the EX/MEM that the tick leaves
   pub shows : (s s' : PipelineCpu) (w : Wanted) (t : Given) (o : Origins) → ask s ≡ Ok w → tick s t ≡ Ok s'
       → w.origins ≡ Some o → Executes s t.special s'.stages.ex_mem o
-  -- where none are shown nothing executes: a running machine's tick leaves EX/MEM empty
+  -- where none are shown nothing executes: a tick that moves anything leaves EX/MEM empty
   pub hides : (s s' : PipelineCpu) (w : Wanted) (t : Given) → ask s ≡ Ok w → tick s t ≡ Ok s'
-      → w.origins ≡ None → s.stages.running ≡ true → s'.stages.ex_mem ≡ empty_ex_mem
+      → w.origins ≡ None → awake s.stages ≡ true → s'.stages.ex_mem ≡ empty_ex_mem
   -- where asking is refused, every tick is, with the same refusal
   pub refuses : (s : PipelineCpu) (c : Refusal) (t : Given) → ask s ≡ Err c → tick s t ≡ Err c
 

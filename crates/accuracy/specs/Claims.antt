@@ -5,7 +5,7 @@
 -- value comes from). stages: Forwarding, Execute, Counting, Retire, Move, Fetch, Advance (the tick's moves), Refusals
 -- (11, 12), Loads. pipeline: Retire, Advance, Start, Refusals (13), Ask (asking), Tick (3, 4, 10), Turn (a source's
 -- tick).
--- Here: Count (M, D, L, R, the formula), Accuracy (RULES 15.6), Asking, Example.
+-- Here: Count (M, D, L, R, the formula), Accuracy (RULES 15.6), Asking, Example, Waits (rows of waits for the memory).
 use Rattle.std.specs.Prelude.{suc, ℕ, length, Bool, false, true, List, ◌++◌, ◌∷◌, ◌≡◌, Option, Ok, Err}
 use Rattle.isa.specs.Machine.{Arch, Program, Source}
 use Rattle.isa.specs.Operands.{ok_dest}
@@ -26,6 +26,7 @@ use Rattle.accuracy.specs.Accuracy.{first_said, offered, one, said}
 use Rattle.accuracy.specs.Asking.{Asking, replies}
 use Rattle.accuracy.specs.Example.{Example}
 use Rattle.accuracy.specs.Names.{Decoded, ExMem, Given, MemWb, Mode, PipelineCpu, Place, Refusal, Stages, Start}
+use Rattle.accuracy.specs.Waits.{WaitRows}
 
 -- Everything claimed; proved in proofs/Claims.antt.
 pub record Claims : Type 0 where
@@ -68,3 +69,4 @@ pub record Claims : Type 0 where
       (forward_from x w f rs d.src_a ≡ value_from o.a x w f rs d.src_a)
       × (operand_b x w f rs d ≡ value_from o.b x w f rs d.src_b)
   pub example : Example
+  pub waits : WaitRows

@@ -4,4 +4,5 @@ pub mod Accuracy
 pub mod Asking
 pub mod Samples
 pub mod Example
+pub mod Waits
 pub mod Claims

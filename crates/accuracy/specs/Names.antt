@@ -23,6 +23,7 @@ pub use Rattle.isa.specs.declared.Decoded.TheVariants.{Normal as DecNormal, Shor
 pub use Rattle.isa.specs.declared.Request.{Request}
 pub use Rattle.isa.specs.declared.Request.TheVariants.{Load, Store}
 pub use Rattle.isa.specs.declared.Exception.{Exception}
+pub use Rattle.isa.specs.declared.Exception.TheVariants.{IllegalInstruction}
 pub use Rattle.isa.specs.declared.Operands.{Operands}
 pub use Rattle.isa.specs.declared.Effect.{Effect}
 pub use Rattle.latch.specs.declared.IfId.{IfId}
@@ -31,6 +32,8 @@ pub use Rattle.latch.specs.declared.ExMem.{ExMem}
 pub use Rattle.latch.specs.declared.MemWb.{MemWb}
 pub use Rattle.origin.specs.declared.Origins.{Origins}
 pub use Rattle.refusal.specs.declared.Refusal.{Refusal}
+pub use Rattle.refusal.specs.declared.Refusal.TheVariants.{BadAnswer, BadOffer, BadRegister, BadWait, Faulty}
+pub use Rattle.refusal.specs.declared.Refusal.TheVariants.{OutOfBounds}
 pub use Rattle.stages.specs.declared.Taken.{Taken}
 pub use Rattle.stages.specs.declared.Move.{Move}
 pub use Rattle.stages.specs.declared.Move.TheVariants.{KeepWaiting as keep_waiting, BeginWait as begin_wait}

@@ -12,4 +12,4 @@ source_of is = record {
 
 -- a tick that is given nothing
 unfoldable pub nothing : Given
-nothing = record { offer = None; answer = None; special = None }
+nothing = record { offer = None; answer = None; special = None; fetch_wait = 0; load_wait = 0 }

@@ -57,7 +57,7 @@ module _ (sheet table : List ℕ) (v : Start) (len : length v.reg ≡ 32) (l : L
   -- after a list of ticks that meets the premise and feeds the machine l
   list_stands : (ts : List Given) → AllMeet G (begin v) ts → Fed G (begin v) l ts
       → (k : ℕ) × Stands G W wide nought (after (begin v) ts) k
-  unfolding begin program_of
+  unfolding begin fresh program_of
   list_stands ts off fe =
       let s = start_live G v refl refl l in
       all_stand G W wide nought ts (begin v) l 0 (live 0 0 0 s refl)

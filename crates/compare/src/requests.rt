@@ -47,7 +47,7 @@ impl Requests {
         }
     }
 
-    // Those of so many ticks from a state.
+    // Those of so many ticks from a state, which tell no wait.
     pub fn of(mut state: PipelineCpu, inputs: Inputs<'_>, ticks: u32) -> Requests {
         let mut requests = Requests {
             count: 0,
@@ -64,6 +64,8 @@ impl Requests {
                 offer: wanted.fetch.map(|place| offer_at(inputs.sheet, place)),
                 answer,
                 special: special_at(inputs.table, wanted.special),
+                fetch_wait: 0,
+                load_wait: 0,
             };
             state = state.tick(given).state;
             if let Some(request) = wanted.request {

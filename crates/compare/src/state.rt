@@ -54,6 +54,7 @@ impl FromNumbers for Stages {
             mem_wb: numbers.read()?,
             ex_cycles_left: numbers.read()?,
             ex_armed: numbers.read()?,
+            wait_left: numbers.read()?,
         })
     }
 }
@@ -64,7 +65,7 @@ impl ToNumbers for Stages {
         line.write((self.running, self.user, self.features))?;
         line.write((self.if_id, self.id_ex))?;
         line.write((self.ex_mem, self.mem_wb))?;
-        line.write((self.ex_cycles_left, self.ex_armed))
+        line.write((self.ex_cycles_left, self.ex_armed, self.wait_left))
     }
 }
 
@@ -111,6 +112,8 @@ impl FromNumbers for Given {
             offer: numbers.read()?,
             answer: numbers.read()?,
             special: numbers.read()?,
+            fetch_wait: numbers.read()?,
+            load_wait: numbers.read()?,
         })
     }
 }

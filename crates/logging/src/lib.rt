@@ -3,7 +3,7 @@
 // Wrong programs that the promise of `tick_logged` rules out; a name in brackets is the must-fail edit that tries one:
 // 14 before the tick's own refusals (refusal_14_before_4); the tick done although its events do not fit
 // (full_but_done); the store of an instruction that a HALT empties (store_behind_halt); the events of the state after
-// the tick; events of a machine that does not run.
+// the tick; events of a machine that does not run; events of a tick that waits for the memory.
 #![tactic(auto)]
 
 ghost use Rattle.std.specs.Prelude.{◌++◌, ◌≡◌};

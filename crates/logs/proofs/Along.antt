@@ -89,4 +89,4 @@ along_front (t ∷ ts) k r (p ∷ pre) post q e =
 
 -- the run that starts at a state
 abbrev pub from : PipelineCpu → Run
-from s = record { state = s; accepted = 0; requests = [] }
+from s = record { state = s; accepted = 0; requests = []; waits = 0 }

@@ -92,7 +92,7 @@ entered_by : (prog : Program) (v : Start) (left : List ℕ) (ts : List Given) (N
     → v.features ≡ prog.features → length v.reg ≡ 32 → AllMeet prog (begin v) ts → Fed prog (begin v) left ts
     → (x : Retires prog (arch_with v left) (begin v) ts N)
     → Entered prog (arch_with v left) v.reg (events_along (begin v) ts) (events_along (begin v) x.pre) N
-unfolding begin arch_with
+unfolding begin arch_with fresh
 entered_by prog v left ts N eu ef len m fe x =
     let w = arch_with v left in
     let n : length w.reg ≡ 32 = length-set v.reg 0 0 ∙ len in

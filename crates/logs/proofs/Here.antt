@@ -7,6 +7,7 @@ use mathlib.Core.List.{List, [], ◌++◌, ◌∷◌}
 use mathlib.Core.Path.{◌∙◌, ◌≡◌, ap, refl, sym}
 use native.Mathlib.Omega.{arith}
 use Rattle.std.specs.Prelude.{Err, Ok, Result}
+use Rattle.isa.proofs.Bools.{split}
 use Rattle.isa.proofs.Machine.{walk}
 use Rattle.isa.specs.Machine.{Arch, Machine, Program, machine}
 use Rattle.latch.specs.Decode.{id_ex_by, id_ex_of}
@@ -62,13 +63,12 @@ module _ (prog : Program) (w₀ : Arch) (len : length w₀.reg ≡ 32) (nought :
       let z : bit l.valid ≡ 0 = ap (λ (x : MemWb). bit x.valid) e in absurd (omega arith)
   mw_is l t k n₁ (Mw.full e d o g) h = (ap (λ (x : MemWb). x.valid) e, ap (λ (x : MemWb). x.pc) e)
 
-  here_live : (s : PipelineCpu) (a t : ℕ) (asked : List Request) (left : List ℕ) (n n₁ n₂ : ℕ)
-      → Live prog w₀ s t asked left n n₁ n₂ → retirements (events s.stages a) ≡ 1
+  here_awake : (s : PipelineCpu) (a t : ℕ) (asked : List Request) (left : List ℕ) (n n₁ n₂ : ℕ)
+      → Live prog w₀ s t asked left n n₁ n₂ → retirements (events s.stages a) ≡ 1 → awake s.stages ≡ true
       → Here prog w₀ s.stages a (events s.stages a) n
-  unfolding awake path
-  here_live s a t asked left n n₁ n₂ lv h =
+  unfolding path
+  here_awake s a t asked left n n₁ n₂ lv h aw =
       let l = s.stages in
-      let aw : awake l ≡ true = lv.running in
       let b : bit l.mem_wb.valid ≡ 1
       = sym ((says l a).retired ∙ ap (λ (b : Bool). cond b (bit l.mem_wb.valid) 0) aw) ∙ h in
       let x = mw_is l.mem_wb t n n₁ lv.mem_wb b in
@@ -79,13 +79,22 @@ module _ (prog : Program) (w₀ : Arch) (len : length w₀.reg ≡ 32) (nought :
             ∙ ap (λ (q : ℕ). Retired q ∷ (writes_of l.mem_wb l.features ++ accesses l a)) p;
       }
 
-  here_over : (s : PipelineCpu) (a n : ℕ) → s.stages.running ≡ false → retirements (events s.stages a) ≡ 1
+  -- a tick that moves nothing retires none
+  here_asleep : (s : PipelineCpu) (a n : ℕ) → retirements (events s.stages a) ≡ 1 → awake s.stages ≡ false
       → Here prog w₀ s.stages a (events s.stages a) n
   unfolding retirements
-  here_over s a n e h =
-      let z : retirements (events s.stages a) ≡ 0 =
-      ap retirements (asleep_events s.stages a (stopped_asleep s.stages e)) in
-      absurd (omega arith)
+  here_asleep s a n h e =
+      let z : retirements (events s.stages a) ≡ 0 = ap retirements (asleep_events s.stages a e) in absurd (omega arith)
+
+  here_live : (s : PipelineCpu) (a t : ℕ) (asked : List Request) (left : List ℕ) (n n₁ n₂ : ℕ)
+      → Live prog w₀ s t asked left n n₁ n₂ → retirements (events s.stages a) ≡ 1
+      → Here prog w₀ s.stages a (events s.stages a) n
+  here_live s a t asked left n n₁ n₂ lv h =
+      split (awake s.stages) (here_awake s a t asked left n n₁ n₂ lv h) (here_asleep s a n h)
+
+  here_over : (s : PipelineCpu) (a n : ℕ) → s.stages.running ≡ false → retirements (events s.stages a) ≡ 1
+      → Here prog w₀ s.stages a (events s.stages a) n
+  here_over s a n e h = here_asleep s a n h (stopped_asleep s.stages e)
 
   here_by : (o : Result PipelineCpu Refusal) (p : Run) (t : Given) (left : List ℕ) (n : ℕ)
       → Inv prog w₀ len nought p left n → retirements (unless_refused o (tick_events p.state t)) ≡ 1

@@ -1,4 +1,4 @@
--- A tick's events, by whether the machine runs and MEM/WB is valid, and what they say. Assumes nothing.
+-- A tick's events, by whether it moves anything and MEM/WB is valid, and what they say. Assumes nothing.
 use Prim.Native.Nat.{◌+◌, suc, ℕ}
 use mathlib.Core.Bool.{Bool, ◌&&◌, cond, false, true}
 use mathlib.Core.List.{List, [], ◌++◌, ◌∷◌}
@@ -25,7 +25,7 @@ use Rattle.logs.specs.Names.{Event, Loaded, Request, Retired, Stored, Written}
 unfoldable pub accesses : Stages → ℕ → List Event
 accesses l a = access_events (request_in (requests (retire_stages l).ex_mem)) a
 
--- a tick's events where the machine runs, and where it does not
+-- a tick's events where it moves something, and where it moves nothing
 pub awake_events : (l : Stages) (a : ℕ) → awake l ≡ true
     → events l a ≡ retire_events l.mem_wb l.features ++ accesses l a
 unfolding events asks accesses

@@ -35,6 +35,21 @@ entries_of is answer n = happened (card 64) (ticks is answer n)
 unfoldable pub halted : ℕ → ℕ → Kept
 halted n free = record { state = (kept (card 64) (ticks (Halt ∷ []) 0 5)).state; log = replicate n 255; free = free }
 
+-- ADDI R3,R0,7, then HALT
+unfoldable pub add_and_halt : List Instruction
+add_and_halt = Addi 3 0 (pos 7) ∷ Halt ∷ []
+
+-- the ADDI in MEM/WB, and one tick left of a wait for the memory, told in the fourth tick; a log of 11 bytes, none of
+-- them written
+unfoldable pub held : Kept
+held =
+    let k = kept (card 11) (ticks add_and_halt 0 3) in
+    keep k (record (reply (source_of add_and_halt) 0 k.state) { fetch_wait = 1 })
+
+-- and behind that wait
+unfoldable pub released : Kept
+released = keep held nothing
+
 -- a retirement with CPUID and destination R1 in one latch
 unfoldable pub both : MemWb
 both = record empty_mem_wb { valid = true; cpuid = true; writeback = true; dest = Some 1; value = 9 }
@@ -69,6 +84,10 @@ pub record Rows : Type 0 where
   -- nothing behind a HALT; in the ticks of a divide's wait what retires
   pub behind_halt : entries_of (Halt ∷ St 0 0 (pos 0) ∷ []) 0 8 ≡ Retired 0 ∷ []
   pub in_wait : entries_of (Addi 1 0 (pos 9) ∷ Div 2 1 1 ∷ Halt ∷ []) 0 6 ≡ Retired 0 ∷ Written 1 9 ∷ []
+  -- nothing in a tick of a wait for the memory; in the next, what MEM/WB held
+  pub in_memory_wait : (released.log ≡ replicate 11 255) × ((released.free ≡ 0) × (released.state.counts.cycles ≡ 5))
+  pub behind_memory_wait : happened released (reply (source_of add_and_halt) 0 released.state ∷ [])
+      ≡ Retired 0 ∷ Written 3 7 ∷ []
   -- 5 bytes are enough for HALT, 4 are not: nothing is written, and the machine has not halted
   pub room : happened (card 5) (ticks (Halt ∷ []) 0 5) ≡ Retired 0 ∷ []
   pub no_room : kept (card 4) (ticks (Halt ∷ []) 0 5) ≡ kept (card 4) (ticks (Halt ∷ []) 0 4)

@@ -3,7 +3,7 @@ use mathlib.Core.Bool.{Bool, cond, false, not, true}
 use mathlib.Core.Path.{◌∙◌, ◌≡◌, ap, refl, sym}
 use Rattle.std.specs.Prelude.{ℕ, Err, Ok, Option, Result, is_some, ⊤}
 use Rattle.stages.specs.Counting.{counter_full}
-use Rattle.stages.specs.Refusals.{faulty, out_of_bounds}
+use Rattle.stages.specs.Refusals.{faulty, faulty_alone, out_of_bounds}
 use Rattle.pipeline.specs.Advance.{next}
 use Rattle.pipeline.specs.Ask.{ask, wanted}
 use Rattle.pipeline.specs.Inner.{tick_on}
@@ -82,10 +82,6 @@ module _ (s : PipelineCpu) (r : Refusal) (e : checked (state_tests (faulty s.sta
   unfolding ask
   ask_refuses = sym (all_refuse _ _ r e)
 
-  pub retire_refuses : Err r ≡ retired s
-  unfolding retired
-  retire_refuses = sym (all_refuse _ _ r e)
-
 module _ (s : PipelineCpu) (e : checked (state_tests (faulty s.stages) s) ≡ Ok tt) where
   pub tick_passes : (t : Given) → tick_on s t ≡ tick s t
   unfolding tick tests tick_on
@@ -95,6 +91,12 @@ module _ (s : PipelineCpu) (e : checked (state_tests (faulty s.stages) s) ≡ Ok
   unfolding ask
   ask_passes w ew = ap Ok ew ∙ sym (all_pass _ _ e)
 
-  pub retire_passes : (n : PipelineCpu) → n ≡ retire s → Ok n ≡ retired s
+-- of those of retirement by itself; f: whether 12 applies to it
+module _ (s : PipelineCpu) (f : Bool) (ef : f ≡ faulty_alone s.stages) where
+  pub retire_refuses : (r : Refusal) → checked (state_tests f s) ≡ Err r → Err r ≡ retired s
   unfolding retired
-  retire_passes n en = ap Ok en ∙ sym (all_pass _ _ e)
+  retire_refuses r e = sym (all_refuse _ _ r (ap (λ (b : Bool). checked (state_tests b s)) (sym ef) ∙ e))
+
+  pub retire_passes : (n : PipelineCpu) → checked (state_tests f s) ≡ Ok tt → n ≡ retire s → Ok n ≡ retired s
+  unfolding retired
+  retire_passes n e en = ap Ok en ∙ sym (all_pass _ _ (ap (λ (b : Bool). checked (state_tests b s)) (sym ef) ∙ e))

@@ -12,7 +12,7 @@ pub use Rattle.latch.specs.declared.IfId.{IfId}
 pub use Rattle.latch.specs.declared.IdEx.{IdEx}
 pub use Rattle.origin.specs.declared.Origins.{Origins}
 pub use Rattle.refusal.specs.declared.Refusal.{Refusal}
-pub use Rattle.refusal.specs.declared.Refusal.TheVariants.{BadAnswer, BadOffer, BadRegister, BadSpecial}
+pub use Rattle.refusal.specs.declared.Refusal.TheVariants.{BadAnswer, BadOffer, BadRegister, BadSpecial, BadWait}
 pub use Rattle.refusal.specs.declared.Refusal.TheVariants.{CounterFull, Faulty, OutOfBounds}
 pub use Rattle.stages.specs.declared.Taken.{Taken}
 pub use Rattle.stages.specs.declared.Move.{Move}

@@ -9,7 +9,7 @@ use Rattle.latch.specs.Decode.{decode_id, load_use}
 use Rattle.latch.specs.Execute.{ex_mem_of}
 use Rattle.stages.specs.Execute.{effect_for}
 use Rattle.stages.specs.Forwarding.{forwarded, origin_of, origins_for}
-use Rattle.stages.specs.Refusals.{faulty, out_of_bounds}
+use Rattle.stages.specs.Refusals.{faulty_alone, out_of_bounds}
 use Rattle.pipeline.specs.Names.{BadSpecial, Decoded, Execution, Forwarded, IdEx, IfId, OutOfBounds, PipelineCpu}
 use Rattle.pipeline.specs.Names.{Refusal, Ticked}
 use Rattle.pipeline.specs.Refusals.{state_tests, verdict}
@@ -49,9 +49,9 @@ unfoldable pub hazard_part : IdEx → ℕ → ℕ → Result Bool Refusal
 hazard_part l a b =
     cond (bad_id_ex l || (nat_lt 31 a || nat_lt 31 b)) (Err OutOfBounds) (Ok (load_use l a b))
 
--- retirement gives 12 and 13 as the tick does
+-- retirement gives 12 and 13 as the tick does, and 12 also while a wait for the memory is left, which stays as it is
 unfoldable pub retired : PipelineCpu → Result PipelineCpu Refusal
-retired s = verdict (state_tests (faulty s.stages) s) (retire s)
+retired s = verdict (state_tests (faulty_alone s.stages) s) (retire s)
 
 unfoldable pub retire_part : PipelineCpu → Ticked
 retire_part s = handed_back (retired s) s

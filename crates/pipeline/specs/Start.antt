@@ -19,6 +19,7 @@ fresh v = record {
     mem_wb = empty_mem_wb;
     ex_cycles_left = 0;
     ex_armed = false;
+    wait_left = 0;
   };
   counts = record {
     cycles = 0;

@@ -5,9 +5,10 @@
 // - PipelineCpu::start: R0 as it was handed in; a retire place of 0.
 // - PipelineCpu::ask: no fetch in a redirecting tick; 12 for a machine that does not run; a special register asked for
 //   while a wait begins (asked_while_a_wait_begins of stages); origins shown while a wait begins
-//   (origins_while_a_wait_begins).
+//   (origins_while_a_wait_begins); a fetch while a wait for the memory is left.
 // - PipelineCpu::tick: EX/MEM kept at a HALT (halt_leaves_ex_mem of stages); 4 before 3 (refusal_4_before_3); 10 before
-//   4 (refusal_10_before_4); a wait one tick longer.
+//   4 (refusal_10_before_4); 24 before 10 (refusal_24_before_10); a wait one tick longer; a wait of 1,001 accepted
+//   (wait_of_1001); a tick of a wait for the memory that is no running tick (wait_not_a_running_tick), or that moves.
 // - id_sources: the base of a store left out; 11 for an unknown halfword.
 // - is_mul_div: the wait, 2 or 15, for the latency; a latency of 0 for any other instruction.
 // - load_use_hazard: a source of 32 let through; a load to R0 waited for.
@@ -15,7 +16,7 @@
 // - PipelineCpu::execute_ex: an empty EX/MEM for an invalid latch; no redirect where the branch was rightly predicted;
 //   10 before 11; no origins for an invalid latch.
 // - PipelineCpu::decode_id: an invalid latch made of an invalid one; a branch with negative offset predicted taken.
-// - PipelineCpu::retire: MEM/WB emptied; 12 for a machine that does not run.
+// - PipelineCpu::retire: MEM/WB emptied; 12 for a machine that does not run; none while a wait for the memory is left.
 #![tactic(auto)]
 
 mod ask;
@@ -38,13 +39,16 @@ pub struct PipelineCpu {
     pub counts: Counters,
 }
 
-// What a tick is given: an instruction offered for a fetch, the answer to a load, and what is said of a special register
-// (that there is none, or its word), each where it is given.
+// What a tick is given: an instruction offered for a fetch, the answer to a load, what is said of a special register
+// (that there is none, or its word), each where it is given; and how many ticks the fetch and the load make the pipeline
+// wait.
 #[derive(Clone, Copy)]
 pub struct Given {
     pub offer: Option<RawInstr>,
     pub answer: Option<u32>,
     pub special: Option<Option<u32>>,
+    pub fetch_wait: u16,
+    pub load_wait: u16,
 }
 
 // The state handed back by a tick: the next one, or the very state given where the tick was refused. It is no `Result`,

@@ -97,7 +97,7 @@ impl PipelineCpu {
     fn retired(self) -> Result<PipelineCpu, Refusal>
         ensures { result ≡ retired self }
     {
-        self.check()?;
+        self.check_by(self.stages.is_faulty_alone())?;
         let mut reg = self.reg;
         let stages = self.stages.retire(&mut reg);
         let counts = self.counts.retire(self.stages.mem_wb.valid);

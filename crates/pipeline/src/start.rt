@@ -29,6 +29,7 @@ impl PipelineCpu {
                 mem_wb: MemWb::invalid(),
                 ex_cycles_left: 0,
                 ex_armed: false,
+                wait_left: 0,
             },
             counts: Counters::default(),
         }

@@ -3,6 +3,7 @@ ghost use Rattle.std.specs.Prelude.{false, true, ◌≡◌};
 ghost use Rattle.stages.specs.Advance.{awake};
 ghost use Rattle.stages.specs.Counting.{counter_full};
 ghost use Rattle.stages.specs.Move.{waits_on};
+ghost use Rattle.pipeline.specs.Advance.{resting};
 ghost use Rattle.pipeline.specs.Inner.{Retired, tick_on};
 ghost use Rattle.pipeline.specs.Tick.{taken, tick, ticked};
 
@@ -13,7 +14,7 @@ use stages::{Move, Stages, Taken};
 impl Given {
     // What the tick takes in. A NOP stands for an instruction that is not offered, and 0 for an answer that is not
     // given; neither is looked at.
-    #[tactic(auto, unfolding(crate::specs::Tick::taken, crate::specs::Tick::raw_of, crate::specs::Tick::word_in))]
+    #[tactic(auto, unfolding(crate::specs::Tick::taken, crate::specs::Tick::raw_of, crate::specs::Tick::wait_of, crate::specs::Tick::word_in))]
     fn taken(self) -> Taken
         ensures { result ≡ taken self }
     {
@@ -21,6 +22,7 @@ impl Given {
             answer: self.answer.unwrap_or_default(),
             raw: self.offer.unwrap_or_default(),
             special: self.special,
+            wait: u32::from(self.fetch_wait) + u32::from(self.load_wait),
         }
     }
 }
@@ -28,6 +30,24 @@ impl Given {
 // `room` and `moves` stand in the contracts and in no struct of a checked state: with one `check` would promise two facts
 // in place of an equation, and each caller would take it apart again.
 impl PipelineCpu {
+    // The state after a tick that moves nothing; a machine that does not run waits for the memory too.
+    fn rest(self) -> PipelineCpu
+        requires room { counter_full self.counts ≡ false }
+        ensures { result ≡ resting self }
+    {
+        if self.stages.waits_for_memory() {
+            return PipelineCpu {
+                stages: self.stages.wait_for_memory(),
+                counts: self.counts.count(false, Move::KeepWaiting),
+                ..self
+            };
+        }
+        PipelineCpu {
+            counts: self.counts.idle(),
+            ..self
+        }
+    }
+
     // A tick that moves nothing.
     fn tick_resting(self, t: Given) -> Result<PipelineCpu, Refusal>
         requires room { counter_full self.counts ≡ false }
@@ -35,10 +55,7 @@ impl PipelineCpu {
         ensures { result ≡ tick_on self t }
     {
         t.check(None, false, None)?;
-        Ok(PipelineCpu {
-            counts: self.counts.idle(),
-            ..self
-        })
+        Ok(self.rest())
     }
 
     // A wait goes on in stages that retirement left.

@@ -2,7 +2,7 @@
 use Rattle.std.specs.Prelude.{ℕ}
 use Rattle.refusal.specs.declared.Refusal.{Refusal}
 use Rattle.refusal.specs.declared.Refusal.TheVariants.{BadAnswer, BadCommand, BadLength, BadLimit, BadOffer}
-use Rattle.refusal.specs.declared.Refusal.TheVariants.{BadEntry, BadRegister, BadSpecial, CounterFull, Faulty}
+use Rattle.refusal.specs.declared.Refusal.TheVariants.{BadEntry, BadRegister, BadSpecial, BadWait, CounterFull, Faulty}
 use Rattle.refusal.specs.declared.Refusal.TheVariants.{HighPreview, LogFull, LongPreview, OutOfBounds, ShortLog}
 
 -- the number of a refusal
@@ -22,3 +22,4 @@ number_of CounterFull = 13
 number_of LogFull = 14
 number_of BadEntry = 21
 number_of ShortLog = 22
+number_of BadWait = 24

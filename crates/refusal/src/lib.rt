@@ -40,6 +40,8 @@ pub enum Refusal {
     BadEntry = 21,
     // A log that ends inside an entry.
     ShortLog = 22,
+    // A wait above 1,000 ticks, or one told without its own fetch or load.
+    BadWait = 24,
 }
 
 impl Refusal {

@@ -1,14 +1,15 @@
 -- One turn of the runner's loop. Assumes nothing.
 use Prim.Native.Nat.{◌+◌, ◌-◌, ◌<◌, ◌≤◌, suc, ℕ}
 use lib.ListN.{length}
-use mathlib.Core.Bool.{cond, false}
+use mathlib.Core.Bool.{cond, false, true}
 use mathlib.Core.List.{List}
 use mathlib.Core.Path.{◌∙◌, ◌≡◌, ap, sym}
 use native.Mathlib.Omega.{arith}
 use Rattle.std.specs.Prelude.{None, Ok, Some}
 use Rattle.isa.proofs.Bools.{split}
 use Rattle.isa.specs.Machine.{Source, first, is_empty}
-use Rattle.pipeline.specs.Advance.{next}
+use Rattle.pipeline.proofs.Resting.{rest_load, rest_next, waits_rest}
+use Rattle.pipeline.specs.Advance.{next, waiting}
 use Rattle.pipeline.specs.Tick.{taken, tick}
 use Rattle.pipeline.specs.Turn.{reply}
 use Rattle.runs.proofs.Plays.{play_ends, play_goes}
@@ -18,6 +19,8 @@ use Rattle.runs.specs.Run.{Played, ended, left_after, more, play, reported, run_
 use Rattle.sheet.proofs.Fair.{Fair}
 use Rattle.sheet.proofs.Limit.{by_check, limited}
 use Rattle.sheet.specs.Sheet.{limited_check}
+use Rattle.stages.proofs.Awake.{waits_asleep}
+use Rattle.stages.specs.Advance.{awake, waits_for_memory}
 use Rattle.stages.specs.Refusals.{out_of_bounds}
 use Rattle.runner.specs.Inner.{Holds, Ready, later}
 use Rattle.runner.specs.Names.{End, Given, Halted, PipelineCpu, Spent}
@@ -69,6 +72,11 @@ spent src limit l left s₀ s t h a b e q =
     ∙ ap (λ (n : ℕ). later limit (play src n left s)) y ∙ ap (λ (x : End). later limit (ended x s)) q
     ∙ later_ended limit e s)
 
+-- a tick of a wait for the memory takes no answer
+waits_left : (s : PipelineCpu) (l : List ℕ) → awake s.stages ≡ false → l ≡ left_after s l
+unfolding left_after
+waits_left s l e = rw (rest_load s e)
+
 -- a turn below the limit, from state s with t ticks done and these answers left
 module _ (src : Source) (limit : ℕ) (l left : List ℕ) (s₀ s : PipelineCpu) (t : ℕ) (h : Holds src limit l s₀ s left t)
     (below : t < limit) where
@@ -94,3 +102,10 @@ module _ (src : Source) (limit : ℕ) (l left : List ℕ) (s₀ s : PipelineCpu)
         same = h.same ∙ ap (λ (n : ℕ). later t (play src n left s)) allowed
             ∙ ap (later t) (play_goes src (limit - (t + 1)) left s s' q m) ∙ later_more t _ _;
       }
+
+  -- one of a wait for the memory
+  pub waits : Fair src → turn_of s.stages s.counts false (is_empty left) ≡ None → waits_for_memory s.stages ≡ true
+      → (s' : PipelineCpu) → s' ≡ waiting s → Holds src limit l s₀ s' left (t + 1)
+  waits fair q e s' is =
+      let a = waits_asleep s.stages e in
+      rw (waits_left s left a) (goes fair q s' (is ∙ waits_rest s e ∙ rest_next s a _))

@@ -13,7 +13,7 @@ use Rattle.pipeline.proofs.Running.{plan_next, plan_wants, wait_next, wait_wants
 use Rattle.pipeline.specs.Advance.{next}
 use Rattle.pipeline.specs.Ask.{fetch_at, fetch_wanted, origins_in, want_fetch, want_special, wanted}
 use Rattle.pipeline.specs.Inner.{Retired}
-use Rattle.pipeline.specs.Tick.{raw_of, taken, word_in}
+use Rattle.pipeline.specs.Tick.{raw_of, taken, wait_of, word_in}
 use Rattle.pipeline.specs.Turn.{reply}
 use Rattle.stages.specs.Counting.{count_retired, counted, unless_full}
 use Rattle.stages.specs.Loads.{want_load}
@@ -40,14 +40,15 @@ module _ (src : Source) (s : PipelineCpu) (v w : ℕ) (ew : w ≡ cond (want_loa
   -- what a tick takes in, by what it wants
   taken_is : (g : Option Place) (q : Option ℕ) (i : RawInstr) (x : Option (Option ℕ)) → g ≡ fetch_wanted s
       → q ≡ want_special s → i ≡ option_map_or (λ p. src.raw p.pc p.mode) g (RawNormal Nop)
-      → x ≡ look_up src.table q → record { answer = w; raw = i; special = x } ≡ taken (reply src v s)
-  unfolding taken reply fetch_wanted
+      → x ≡ look_up src.table q → record { answer = w; raw = i; special = x; wait = 0 } ≡ taken (reply src v s)
+  unfolding taken reply fetch_wanted wait_of
   taken_is g q i x eg eq h ex =
       rw (ex, eq, raw_is src (want_fetch s) (fetch_at s) g i eg h, ew ∙ word_is (want_load s.stages) v)
 
   -- l and rs: what retirement leaves of the state
   module _ (l : Stages) (rs : List ℕ) (b : Retired s l rs) (a : Stages) (c : Counters) where
-    pub tick_waits : waits_on l ≡ true → a ≡ waited l (record { answer = w; raw = RawNormal Nop; special = None })
+    pub tick_waits : waits_on l ≡ true
+        → a ≡ waited l (record { answer = w; raw = RawNormal Nop; special = None; wait = 0 })
         → c ≡ unless_full s.counts (counted keep_waiting (count_retired l.mem_wb.valid s.counts))
         → record { reg = rs; stages = a; counts = c } ≡ next s (taken (reply src v s))
     unfolding wanted look_up
@@ -59,7 +60,7 @@ module _ (src : Source) (s : PipelineCpu) (v w : ℕ) (ew : w ≡ cond (want_loa
     pub tick_moves : waits_on l ≡ false → (p : Plan) (f : Bool) (g : Option Place) (i : RawInstr)
         (x : Option (Option ℕ)) → p ≡ plan_of l rs → f ≡ plan_fetches l p → g ≡ then_some f p.place
         → i ≡ option_map_or (λ q. src.raw q.pc q.mode) g (RawNormal Nop) → x ≡ look_up src.table p.inquiry
-        → a ≡ advance_plan p l rs (record { answer = w; raw = i; special = x })
+        → a ≡ advance_plan p l rs (record { answer = w; raw = i; special = x; wait = 0 })
         → c ≡ unless_full s.counts (counted p.step (count_retired l.mem_wb.valid s.counts))
         → record { reg = rs; stages = a; counts = c } ≡ next s (taken (reply src v s))
     unfolding wanted

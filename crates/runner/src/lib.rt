@@ -3,18 +3,18 @@
 //
 // Wrong programs that the promise of `run` rules out: ticks reported one off; a state after a late refusal that is not
 // the one before the refused tick; 11 before 7; an answer used twice; a halted run reported as spent; a special register
-// looked up in an empty table.
+// looked up in an empty table; a wait for the memory ticked off where the machine does not run, or outside the limit.
 #![tactic(auto)]
 
 ghost use Rattle.std.specs.Prelude.{cond, false, true, ◌≡◌};
 ghost use Rattle.std.specs.Option.{option_map_or};
 ghost use Rattle.isa.specs.Machine.{first, is_empty};
-ghost use Rattle.pipeline.specs.Advance.{next};
+ghost use Rattle.pipeline.specs.Advance.{next, waiting};
 ghost use Rattle.pipeline.specs.Tick.{taken};
 ghost use Rattle.pipeline.specs.Turn.{reply};
 ghost use Rattle.runs.specs.Run.{left_after, play, ran, reported, run_check, turn_of};
 ghost use Rattle.sheet.specs.Sheet.{offer_at, sheet_source};
-ghost use Rattle.stages.specs.Advance.{awake};
+ghost use Rattle.stages.specs.Advance.{awake, waits_for_memory};
 ghost use Rattle.stages.specs.Counting.{counter_full};
 ghost use Rattle.stages.specs.Loads.{want_load};
 ghost use Rattle.runner.specs.Inner.{Ready, joined};
@@ -81,10 +81,21 @@ fn tick<'l>(
         answer,
         raw: raw(inputs.sheet, s.fetches(plan).then_some(plan.place)),
         special: special_at(inputs.table, plan.inquiry),
+        wait: 0,
     };
     state.stages = s.advance(plan, taken, reg);
     state.counts = state.counts.count(s.mem_wb.valid, plan.step);
     left
+}
+
+// A tick of a wait for the memory.
+#[tactic(auto, using(pipeline::proofs::Resting::waits_by))]
+fn wait(state: &mut PipelineCpu)
+    requires room { counter_full state.old.counts ≡ false }
+    ensures { state.new ≡ waiting state.old }
+{
+    state.stages = state.stages.wait_for_memory();
+    state.counts = state.counts.count(false, Move::KeepWaiting);
 }
 
 // How a turn below the limit ends the run, if it does.
@@ -103,7 +114,7 @@ fn next_turn(state: &PipelineCpu, left: &[u32]) -> Option<End>
 }
 
 // The turns of a run that was not refused before its first.
-#[tactic(auto, using(crate::proofs::Loop::begins, runs::proofs::Turns::turn_ticks))]
+#[tactic(auto, using(crate::proofs::Loop::begins, runs::proofs::Turns::turn_moves, runs::proofs::Turns::turn_ticks))]
 fn play(mut state: PipelineCpu, inputs: Inputs<'_>) -> Ran
     requires { Ready inputs.sheet.now state }
     ensures { let given = inputs.entry in
@@ -117,7 +128,11 @@ fn play(mut state: PipelineCpu, inputs: Inputs<'_>) -> Ran
             state.reg = reg;
             return Ran { end, ticks, state };
         }
-        left = tick(&mut state, &mut reg, inputs, left);
+        if state.stages.waits_for_memory() {
+            wait(&mut state);
+        } else {
+            left = tick(&mut state, &mut reg, inputs, left);
+        }
     }
     state.reg = reg;
     let end = if state.stages.running {

@@ -5,13 +5,13 @@ use mathlib.Core.Bool.{Bool, cond, false, true}
 use mathlib.Core.Path.{◌≡◌}
 use native.Mathlib.Omega.{arith}
 use Rattle.accuracy.proofs.Sense.{bit_le}
-use Rattle.pipeline.specs.Advance.{advance, move_of, next, resting}
+use Rattle.pipeline.specs.Advance.{advance, idle, move_of, next, resting, waiting}
 use Rattle.pipeline.specs.Retire.{retire}
 use Rattle.pipeline.specs.Start.{fresh}
-use Rattle.stages.specs.Advance.{awake}
+use Rattle.stages.specs.Advance.{awake, waits_for_memory}
 use Rattle.stages.specs.Counting.{count_idle, count_retired, counted, counter_full, flushes, is_full, stalls}
 use Rattle.stages.specs.Retire.{retire_stages}
-use Rattle.runs.specs.Names.{Move, PipelineCpu, Start, Taken}
+use Rattle.runs.specs.Names.{Move, PipelineCpu, Start, Taken, keep_waiting}
 
 -- every counter of s is at most t
 pub record Low (s : PipelineCpu) (t : ℕ) : Type 0 where
@@ -42,9 +42,25 @@ advance_low m s x t a b c d e =
     let y = bit_le (stalls m) in let z = bit_le (flushes m) in
     low_by (omega arith) (omega arith) c (omega arith) (omega arith)
 
+-- a tick that moves nothing
+rest_low : (s : PipelineCpu) (t : ℕ) → Low s t → Low (resting s) (suc t)
+unfolding resting idle waiting counted count_idle
+rest_low s t w = by (waits_for_memory s.stages)
+  where
+    by : (b : Bool) → Low (cond b (waiting s) (idle s)) (suc t)
+    by true =
+        let y = bit_le (stalls keep_waiting) in let z = bit_le (flushes keep_waiting) in
+        low_by (omega (arith, w.cycles)) (omega (arith, w.running_cycles))
+        (omega (arith, w.instructions_executed)) (omega (arith, w.stall_cycles, y))
+        (omega (arith, w.flush_events, z))
+    by false =
+        low_by (omega (arith, w.cycles)) (omega (arith, w.running_cycles))
+        (omega (arith, w.instructions_executed)) (omega (arith, w.stall_cycles))
+        (omega (arith, w.flush_events))
+
 -- one tick more
 pub next_low : (s : PipelineCpu) (x : Taken) (t : ℕ) → Low s t → Low (next s x) (suc t)
-unfolding next retire retire_stages count_retired resting count_idle
+unfolding next retire retire_stages count_retired
 next_low s x t w = by (awake s.stages)
   where
     by : (b : Bool) → Low (cond b (advance (move_of (retire s)) (retire s) x) (resting s)) (suc t)
@@ -53,10 +69,7 @@ next_low s x t w = by (awake s.stages)
         let c = w.instructions_executed in
         advance_low (move_of (retire s)) (retire s) x t w.cycles w.running_cycles (omega arith)
         w.stall_cycles w.flush_events
-    by false =
-        low_by (omega (arith, w.cycles)) (omega (arith, w.running_cycles))
-        (omega (arith, w.instructions_executed)) (omega (arith, w.stall_cycles))
-        (omega (arith, w.flush_events))
+    by false = rest_low s t w
 
 -- a counter below the limit is not full
 not_full : (n t : ℕ) → n ≤ t → t < 18446744073709551615 → is_full n ≡ false

@@ -14,7 +14,7 @@ use Rattle.accuracy.specs.Accuracy.{Run, begin, one_by}
 use Rattle.accuracy.specs.Count.{path, retire_tick}
 use Rattle.isa.specs.Machine.{Arch, Program, Source, arch_with, first, is_empty, machine, program_of}
 use Rattle.pipeline.specs.Start.{fresh}
-use Rattle.pipeline.specs.Tick.{tick}
+use Rattle.pipeline.specs.Tick.{tick, wait_of}
 use Rattle.pipeline.specs.Turn.{reply}
 use Rattle.stages.specs.Loads.{want_load}
 use Rattle.runs.proofs.Plays.{play_stopped}
@@ -57,10 +57,11 @@ module _ (src : Source) (v : Start) (w : Arch) (len : length w.reg ≡ 32)
   }
 
   -- behind the tick that retires HALT
-  at_once : (r r' : Run) (k n : ℕ) (l : List ℕ) → Now P w len nought r r' k → r'.state.stages.running ≡ false
+  at_once : (r r' : Run) (k n : ℕ) (l : List ℕ) → r.waits ≡ 0 → Now P w len nought r r' k
+      → r'.state.stages.running ≡ false
       → Halts r'.accepted (play src n l r'.state)
   unfolding ended
-  at_once r r' k n l x e =
+  at_once r r' k n l nw x e =
       subst (λ (p : Played). Halts r'.accepted p) (sym (play_stopped src n l r'.state e)) (record {
         K = k;
         count = x.now;
@@ -71,13 +72,14 @@ module _ (src : Source) (v : Start) (w : Arch) (len : length w.reg ≡ 32)
       })
 
   -- behind any tick
-  halts_next : (r r' : Run) (k n : ℕ) (l : List ℕ) → r.state.stages.running ≡ true → Step P w len nought r r' l k
+  halts_next : (r r' : Run) (k n : ℕ) (l : List ℕ) → r.waits ≡ 0 → r.state.stages.running ≡ true
+      → Step P w len nought r r' l k
       → ((j : ℕ) → r'.state.stages.running ≡ true → Inv P w len nought r' l j
       → Halts r'.accepted (play src n l r'.state))
       → Halts r'.accepted (play src n l r'.state)
-  halts_next r r' k n l ru (quiet i h) ih = ih k (h ru) i
-  halts_next r r' k n l ru (committed x (live n₁ n₂ t lv c)) ih = ih (suc k) lv.running (live n₁ n₂ t lv c)
-  halts_next r r' k n l ru (committed x (over e c)) ih = at_once r r' k n l x e
+  halts_next r r' k n l nw ru (quiet i h) ih = ih k (h ru) i
+  halts_next r r' k n l nw ru (committed x (live n₁ n₂ t lv c)) ih = ih (suc k) lv.running (live n₁ n₂ t lv c)
+  halts_next r r' k n l nw ru (committed x (over e c)) ih = at_once r r' k n l nw x e
 
   -- a turn, by what it does and the result of its tick
   halts_by : (r : Run) (l : List ℕ) (u : Option End) (o : Result PipelineCpu Refusal) (k : PipelineCpu → Played)
@@ -96,19 +98,20 @@ module _ (src : Source) (v : Start) (w : Arch) (len : length w.reg ≡ 32)
       one_more r.accepted (reply src (first l) r.state) (k s) (h s refl e (turn_load r.state l a))
 
   -- a run that ends halted
-  halts_run : (n : ℕ) (l : List ℕ) (r : Run) (k : ℕ) → r.state.stages.running ≡ true → Inv P w len nought r l k
+  halts_run : (n : ℕ) (l : List ℕ) (r : Run) (k : ℕ) → r.waits ≡ 0 → r.state.stages.running ≡ true
+      → Inv P w len nought r l k
       → (play src n l r.state).end ≡ Halted → Halts r.accepted (play src n l r.state)
-  unfolding play ended one_by
-  halts_run zero l r k ru i e = absurd (false≢true (sym (last_end r.state.stages.running e) ∙ ru))
-  halts_run (suc n) l r k ru i e =
+  unfolding play ended one_by wait_of reply
+  halts_run zero l r k nw ru i e = absurd (false≢true (sym (last_end r.state.stages.running e) ∙ ru))
+  halts_run (suc n) l r k nw ru i e =
       let t = reply src (first l) r.state in
       let l' = left_after r.state l in
       halts_by r l (turn_of r.state.stages r.state.counts false (is_empty l)) (tick r.state t)
       (λ s. play src n l' s) ru refl e
-      (λ s q e' g. halts_next r (one_by (Ok s) t r) k n l' ru
+      (λ s q e' g. halts_next r (one_by (Ok s) t r) k n l' nw ru
       (step_by P w len nought r t (Ok s) q l l' k i (λ s' a. meets src v r.state (first l))
       (feeds src v r.state s l g))
-      (λ j ru' i'. halts_run n l' (one_by (Ok s) t r) j ru' i' e'))
+      (λ j ru' i'. halts_run n l' (one_by (Ok s) t r) j (omega arith) ru' i' e'))
 
 -- from the start
 pub run_halted : (src : Source) (v : Start) → length v.reg ≡ 32 → (limit : ℕ) (l : List ℕ)
@@ -122,7 +125,7 @@ run_halted src v len limit l e =
     let w = arch_with v l in
     let p = play src limit l (fresh v) in
     let h = halts_run src v w (length-set v.reg 0 0 ∙ len) (get_or-set_same v.reg 0 0 0 (omega arith)) limit l
-    (begin v) 0 refl (live 0 0 0 (start_live prog v refl refl l) refl) e in
+    (begin v) 0 refl refl (live 0 0 0 (start_live prog v refl refl l) refl) e in
     let c = h.count in
     record {
       ticks = (let t = h.ticks in

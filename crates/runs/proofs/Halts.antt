@@ -21,7 +21,7 @@ use Rattle.isa.proofs.Machine.{did_next}
 use Rattle.isa.specs.Machine.{Arch, Program, Source, arch_with, first, machine, program_of}
 use Rattle.pipeline.specs.Advance.{next}
 use Rattle.pipeline.specs.Start.{fresh}
-use Rattle.pipeline.specs.Tick.{taken}
+use Rattle.pipeline.specs.Tick.{taken, wait_of}
 use Rattle.pipeline.specs.Turn.{reply}
 use Rattle.sheet.proofs.Fair.{Fair}
 use Rattle.stages.specs.Refusals.{out_of_bounds}
@@ -76,17 +76,20 @@ module _ (src : Source) (ok : Fair src) (v : Start) (w : Arch)
       let z : suc K ≡ suc k = omega arith in
       absurd (false≢true (sym down ∙ ap (λ (n : ℕ). (machine P w n).runs) z ∙ e)))
 
-  -- a run with n ticks left: it is in bounds, no counter is above its ticks, and instruction K is due within n
+  -- a run with n ticks left: it is in bounds, no counter is above its ticks, instruction K is due within n, and no wait
+  -- has been told
   record Ready (r : Run) (n : ℕ) : Type 0 where
     sound : out_of_bounds r.state.stages ≡ false
     low : Low r.state r.accepted
     enough : due P w K ≤ r.accepted + n
     room : r.accepted + n < 18446744073709551615
+    untold : r.waits ≡ 0
 
   -- behind any tick
   halts_next : (r r' : Run) (k n : ℕ) (l : List ℕ) → r.state.stages.running ≡ true → k < suc K
       → Step P w len nought r r' l k
-      → ((j n₁ n₂ t : ℕ) → j < suc K → Live P w r'.state t r'.requests l j n₁ n₂ → r'.accepted ≡ t
+      → ((j n₁ n₂ t : ℕ) → j < suc K → Live P w r'.state t r'.requests l j n₁ n₂
+      → r'.accepted + r'.state.stages.wait_left ≡ t + r'.waits
       → HaltsWith (suc K) (play src n l r'.state))
       → HaltsWith (suc K) (play src n l r'.state)
   halts_next r r' k n l ru h (quiet (live n₁ n₂ t lv c) z) ih = ih k n₁ n₂ t h lv c
@@ -98,18 +101,21 @@ module _ (src : Source) (ok : Fair src) (v : Start) (w : Arch)
 
   -- a run that is ready
   halts_on : (n : ℕ) (l : List ℕ) (r : Run) (k n₁ n₂ t : ℕ) → Ready r n → k < suc K
-      → Live P w r.state t r.requests l k n₁ n₂ → r.accepted ≡ t → HaltsWith (suc K) (play src n l r.state)
-  unfolding one_by
+      → Live P w r.state t r.requests l k n₁ n₂ → r.accepted + r.state.stages.wait_left ≡ t + r.waits
+      → HaltsWith (suc K) (play src n l r.state)
+  unfolding one_by wait_of reply
   halts_on zero l r k n₁ n₂ t y h lv c =
       let a = live_late P w r.state t r.requests l k n₁ n₂ lv in
       let b = due_mono P w k K (omega arith) in
       let e = y.enough in
+      let nw = y.untold in
       absurd (omega arith)
   halts_on (suc n) l r k n₁ n₂ t y h lv c =
       let a = not_faulty P w (suc K) did down r.state t r.requests l k n₁ n₂ lv h in
       let d = has_answer P w (suc K) did down r.state t r.requests l k n₁ n₂ lv h in
       let en = y.enough in
       let rm = y.room in
+      let nw = y.untold in
       let b = low_room r.state r.accepted y.low (omega arith) in
       let g = reply src (first l) r.state in
       let s = next r.state (taken g) in
@@ -121,6 +127,7 @@ module _ (src : Source) (ok : Fair src) (v : Start) (w : Arch)
         low = next_low r.state (taken g) r.accepted y.low;
         enough = omega arith;
         room = omega arith;
+        untold = omega arith;
       } in
       subst (λ (p : Played). HaltsWith (suc K) p)
       (sym (play_goes src n l r.state s (turn_goes r.state l lv.running a b d) e))
@@ -139,7 +146,7 @@ pub run_halts : (src : Source) → Fair src
     (λ n. path (program_of src v) (arch_with v l) n) N
     ≤ limit
     → HaltsWith N (play src limit l (fresh v))
-unfolding begin program_of arch_with machine
+unfolding begin fresh program_of arch_with machine
 run_halts src ok v len limit l small zero did down le = absurd (false≢true (sym down))
 run_halts src ok v len limit l small (suc K) did down le =
     let prog = program_of src v in
@@ -153,4 +160,5 @@ run_halts src ok v len limit l small (suc K) did down le =
       low = fresh_low v;
       enough = omega arith;
       room = omega arith;
+      untold = refl;
     }) (omega arith) (start_live prog v refl refl l) refl

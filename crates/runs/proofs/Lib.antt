@@ -6,6 +6,7 @@ pub mod Halted
 pub mod Counters
 pub mod Due
 pub mod Unstopped
+pub mod Untold
 pub mod Halts
 pub mod Rows
 pub mod Without

@@ -5,7 +5,7 @@ use mathlib.Core.Path.{◌≡◌, refl}
 use Rattle.std.specs.Prelude.{Option, None, Some, Ok, is_some}
 use Rattle.std.specs.Bool.{then_some}
 use Rattle.accuracy.proofs.Bounds.{tick_in}
-use Rattle.accuracy.proofs.Took.{takes}
+use Rattle.accuracy.proofs.Took.{none_fits, takes}
 use Rattle.isa.specs.Inquiries.{look_up}
 use Rattle.isa.specs.Machine.{Source}
 use Rattle.isa.specs.Refusals.{is_of, ok_raw}
@@ -59,6 +59,8 @@ goes_reply src f s v a b c = takes s (reply src v s) (next s (taken (reply src v
   fetch = fit_offer (want_fetch s) (fetch_at s) _ (f.kind (fetch_at s).pc (fetch_at s).mode);
   is_load = fit_answer (want_load s.stages) v;
   special = fit_special src.table (want_special s) f.said;
+  fetch_wait = none_fits (is_some (fetch_wanted s));
+  load_wait = none_fits (want_load s.stages);
   is = refl;
 })
 

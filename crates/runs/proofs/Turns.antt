@@ -7,7 +7,8 @@ use Rattle.std.specs.Prelude.{None, Some}
 use Rattle.isa.proofs.Bools.{and_r, split}
 use Rattle.isa.specs.Machine.{is_empty}
 use Rattle.sheet.specs.Turns.{turn_by}
-use Rattle.stages.specs.Advance.{awake}
+use Rattle.stages.proofs.Awake.{runs_awake}
+use Rattle.stages.specs.Advance.{awake, waits_for_memory}
 use Rattle.stages.specs.Counting.{counter_full}
 use Rattle.stages.specs.Loads.{want_load}
 use Rattle.stages.specs.Refusals.{faulty}
@@ -25,12 +26,17 @@ ticks_by true false true b d e = cc
 ticks_by true true a b d e = cc
 ticks_by false p a b d e = cc
 
--- so it moves, is not at 12, and no counter is full
+-- so it runs, is not at 12, and no counter is full
 pub turn_ticks : (s : PipelineCpu) (none : Bool) → turn_of s.stages s.counts false none ≡ None
-    → (awake s.stages ≡ true) × (faulty s.stages ≡ false) × (counter_full s.counts ≡ false)
-unfolding turn_of awake
+    → (s.stages.running ≡ true) × (faulty s.stages ≡ false) × (counter_full s.counts ≡ false)
+unfolding turn_of
 turn_ticks s none e =
     let k = ticks_by s.stages.running false (faulty s.stages) (counter_full s.counts) _ e in (k.0, k.2, k.3)
+
+-- it moves, unless it waits for the memory
+pub turn_moves : (s : PipelineCpu) (none : Bool) → turn_of s.stages s.counts false none ≡ None
+    → waits_for_memory s.stages ≡ false → awake s.stages ≡ true
+turn_moves s none e f = runs_awake s.stages (turn_ticks s none e).0 f
 
 -- a turn that ticks has an answer for its load
 pub turn_load : (s : PipelineCpu) (l : List ℕ) → turn_of s.stages s.counts false (is_empty l) ≡ None → want_load

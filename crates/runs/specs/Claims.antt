@@ -1,7 +1,7 @@
 -- Read this first: what is claimed of a run over any source of instructions. Here: Run (a run by its turns, and the
 -- runner on a sheet's bytes), Rows (those of RULES 22.1). Elsewhere: sheet has the records and the order of
 -- a turn, pipeline the tick and its refusals, isa the one-at-a-time machine, accuracy the formula and RULES 15.6.
-use Rattle.std.specs.Prelude.{◌+◌, ◌≤◌, ℕ, length, false, List, [], ◌≡◌, Ok}
+use Rattle.std.specs.Prelude.{◌+◌, ◌≤◌, ℕ, length, false, List, [], ◌++◌, ◌≡◌, Ok}
 use Rattle.accuracy.specs.Accuracy.{Retires, Run, after, begin, said}
 use Rattle.accuracy.specs.Count.{path, retire_tick}
 use Rattle.isa.specs.Inquiries.{NotMfsr}
@@ -9,7 +9,7 @@ use Rattle.isa.specs.Machine.{Arch, Program, Source, arch_with, machine, program
 use Rattle.isa.specs.Short.{decoded_of}
 use Rattle.pipeline.specs.Start.{fresh}
 use Rattle.sheet.specs.Sheet.{SheetWithout, sheet_check, sheet_source}
-use Rattle.runs.specs.Names.{Halted, PipelineCpu, Ran, Start}
+use Rattle.runs.specs.Names.{Given, Halted, PipelineCpu, Ran, Start}
 use Rattle.runs.specs.Rows.{Rows}
 use Rattle.runs.specs.Run.{Played, play, ran}
 
@@ -24,6 +24,13 @@ pub record RanTicks (r : Run) (limit : ℕ) (p : Played) : Type 0 where
 abbrev pub RunTicks : Type 0
 RunTicks =
     (src : Source) (limit : ℕ) (l : List ℕ) (r : Run) → RanTicks r limit (play src limit l r.state)
+
+-- No wait for the memory is told in a run: behind each part of it, as much has been told as before it. So W of RULES
+-- 15.6 is 0.
+abbrev pub RunUntold : Type 0
+RunUntold =
+    (src : Source) (limit : ℕ) (l : List ℕ) (r : Run) (pre post : List Given)
+    → (play src limit l r.state).ticks ≡ pre ++ post → (after r pre).waits ≡ r.waits
 
 -- Every N up to the retired count: the N-th retirement among the run's ticks, as RULES 15.6 has it, the machine fed the
 -- load answers that the runner was given.
@@ -83,6 +90,7 @@ AnyTable =
 -- Everything claimed; proved in proofs/Claims.antt.
 pub record Claims : Type 0 where
   pub ticks : RunTicks
+  pub untold : RunUntold
   pub retires : RunRetires
   pub sheet_halted : SheetHalted
   pub sheet_halts : SheetHalts

@@ -1,5 +1,5 @@
 -- The rows of RULES 22.1 and 25.5, run from their sheets' bytes: one table, one claim.
-use Rattle.std.specs.Prelude.{ℕ, slice_index, replicate, false, true, List, [], ◌∷◌, map, ◌≡◌, Option, None, Some}
+use Rattle.std.specs.Prelude.{ℕ, slice_index, replicate, Bool, false, true, List, [], ◌∷◌, map, ◌≡◌, Option, None, Some}
 use Rattle.isa.specs.Machine.{zero_start}
 use Rattle.latch.specs.Bounds.{bad_width}
 use Rattle.pipeline.specs.Start.{fresh}
@@ -28,6 +28,14 @@ table_row v sheet table answers r = (
   seen r (ran (fresh v) sheet answers table 1000000),
   map (λ t. t.special) (play (sheet_source sheet table) 1000000 answers (fresh v)).ticks,
 )
+
+-- a sheet's run with a tick limit from a fresh state, running or not, with ticks left of a wait for the memory; and the
+-- ticks left then
+unfoldable pub wait_row : List ℕ → Bool → ℕ → ℕ → (End × List ℕ) × ℕ
+wait_row sheet running left limit =
+    let s = fresh zero_start in
+    let r = ran (record s { stages = record s.stages { running = running; wait_left = left } }) sheet [] [] limit in
+    (seen 0 r, r.state.stages.wait_left)
 
 -- the start with zeros, but in user mode
 unfoldable pub user_start : Start
@@ -152,6 +160,10 @@ pub record Rows : Type 0 where
         (Halted, 6 ∷ 2 ∷ 0 ∷ 0 ∷ 0 ∷ []),
         None ∷ None ∷ Some (Some 7) ∷ None ∷ None ∷ None ∷ [],
       )
+  -- a wait is ticked off first, within the limit too, but not of a machine that does not run
+  pub waits : wait_row halt_sheet true 2 1000000 ≡ ((Halted, 7 ∷ 1 ∷ 2 ∷ 0 ∷ 0 ∷ []), 0)
+  pub waits_spent : wait_row halt_sheet true 2 2 ≡ ((Spent, 2 ∷ 0 ∷ 2 ∷ 0 ∷ 0 ∷ []), 0)
+  pub waits_stopped : wait_row halt_sheet false 2 1000000 ≡ ((Halted, 0 ∷ 0 ∷ 0 ∷ 0 ∷ 0 ∷ []), 2)
   -- of the widths 0 to 5 and 8, those that no access has
   pub widths : map bad_width (0 ∷ 1 ∷ 2 ∷ 3 ∷ 4 ∷ 5 ∷ 8 ∷ []) ≡ (
       false ∷ false ∷ false ∷ true ∷ false ∷ true ∷ true ∷ [])

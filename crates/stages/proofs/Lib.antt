@@ -1,4 +1,5 @@
 pub mod Awake
+pub mod Counted
 pub mod Full
 pub mod Loads
 pub mod Moves

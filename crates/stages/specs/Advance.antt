@@ -1,5 +1,5 @@
 -- The stages after a move.
-use Rattle.std.specs.Prelude.{◌-◌, ℕ, Bool, cond, List, is_some}
+use Rattle.std.specs.Prelude.{◌-◌, ℕ, nat_lt, Bool, ◌&&◌, cond, not, List, is_some}
 use Rattle.isa.specs.Effect.{fall}
 use Rattle.isa.specs.Waits.{waits}
 use Rattle.latch.specs.Latches.{cleared, empty_id_ex}
@@ -57,11 +57,20 @@ advance_by m e d p l x = record {
   mem_wb = mem_wb_of l.ex_mem x.answer;
   ex_cycles_left = wait_after m l;
   ex_armed = is_wait m;
+  wait_left = x.wait;
 }
 
 unfoldable pub advance_stages : Move → Stages → List ℕ → Taken → Stages
 advance_stages m l rs x = advance_by m (next_ex_mem m l rs x.special) (next_id_ex l rs) (fetch_place m l) l x
 
--- whether a tick moves anything
+-- ticks are left of a wait for the memory
+unfoldable pub waits_for_memory : Stages → Bool
+waits_for_memory l = nat_lt 0 l.wait_left
+
+-- whether a tick moves anything: that of a running machine that does not wait for the memory
 unfoldable pub awake : Stages → Bool
-awake l = l.running
+awake l = l.running && not (waits_for_memory l)
+
+-- one of those ticks
+unfoldable pub wait_for_memory : Stages → Stages
+wait_for_memory l = record l { wait_left = l.wait_left - 1 }

@@ -21,4 +21,5 @@ retire_stages l = record {
   mem_wb = l.mem_wb;
   ex_cycles_left = cond (halts l.mem_wb) 0 l.ex_cycles_left;
   ex_armed = cond (halts l.mem_wb) false l.ex_armed;
+  wait_left = l.wait_left;
 }

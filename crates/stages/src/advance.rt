@@ -1,7 +1,7 @@
 // The rest of a tick, by its plan.
 ghost use Rattle.std.specs.Prelude.{cond, ◌≡◌};
 ghost use Rattle.isa.specs.Effect.{fall};
-ghost use Rattle.stages.specs.Advance.{advance_by};
+ghost use Rattle.stages.specs.Advance.{advance_by, wait_for_memory};
 ghost use Rattle.stages.specs.Fetch.{fetched};
 ghost use Rattle.stages.specs.Inner.{move_on};
 ghost use Rattle.stages.specs.Names.{begin_wait, keep_waiting, load_use_stall, proceed, redirect};
@@ -40,6 +40,7 @@ impl Stages {
             ex_mem,
             ex_armed: true,
             ex_cycles_left: self.ex_cycles_left.saturating_sub(1),
+            wait_left: taken.wait,
             ..self
         }
     }
@@ -52,6 +53,17 @@ impl Stages {
         self.keep_waiting(ExMem::invalid(), taken)
     }
 
+    // A tick of a wait for the memory: nothing moves.
+    #[tactic(auto, unfolding(crate::specs::Advance::wait_for_memory))]
+    pub fn wait_for_memory(self) -> Stages
+        ensures { result ≡ wait_for_memory self }
+    {
+        Stages {
+            wait_left: self.wait_left.saturating_sub(1),
+            ..self
+        }
+    }
+
     // A wait in EX begins. A function for this and the one before, over the ticks left, would need a definition of its own.
     #[tactic(auto, unfolding(crate::specs::Advance::advance_by, crate::specs::Advance::id_ex_after, crate::specs::Advance::if_id_after, crate::specs::Move::is_wait, crate::specs::Advance::wait_after, crate::specs::Advance::place_after))]
     fn begin_wait(self, ex_mem: ExMem, taken: Taken) -> Stages
@@ -62,6 +74,7 @@ impl Stages {
             ex_mem,
             ex_armed: true,
             ex_cycles_left: self.id_ex.decoded.waits(),
+            wait_left: taken.wait,
             ..self
         }
     }
@@ -91,6 +104,7 @@ impl Stages {
                 self.ex_cycles_left
             },
             ex_armed: false,
+            wait_left: taken.wait,
             ..self
         }
     }

@@ -247,7 +247,7 @@ impl Answers {
 
     /// Answers retirement by itself.
     fn retire(&mut self, state: &State, out: &mut Vec<u32>) {
-        let code = refusals::standing(state);
+        let code = refusals::retirement(state);
         code.put(out);
         if code == NONE {
             self.original.retire(state).put(out);

@@ -29,6 +29,7 @@ mod sheet;
 mod special_registers;
 pub mod stand_ins;
 pub mod tickrun;
+pub mod wait_rows;
 
 use stand_ins::{bus, cpu, cpu_cache, devices, tracing};
 

@@ -8,6 +8,7 @@ const USAGE: &str = "usage:
   oracle listings
   oracle origin-rows
   oracle log-rows
+  oracle wait-rows
   oracle tickrun
   oracle compare PROGRAM KIND COUNT SEED
   oracle cases KIND COUNT SEED
@@ -25,6 +26,7 @@ fn run(words: &[&str]) -> Result<bool> {
         ["listings"] => oracle::listing::run(out()),
         ["origin-rows"] => oracle::origin_rows::run(out()),
         ["log-rows"] => oracle::log_rows::run(out()),
+        ["wait-rows"] => oracle::wait_rows::run(out()),
         ["tickrun"] => oracle::tickrun::run(stdin().lock(), out()).map(|()| true),
         ["answer"] => oracle::answer::run(stdin().lock(), out()).map(|()| true),
         ["compare", program, of, count, seed] => {

@@ -12,6 +12,7 @@ mod list;
 mod log_list;
 mod logged;
 mod meeting;
+mod memory;
 mod offer;
 mod operands;
 mod origin;

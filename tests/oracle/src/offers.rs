@@ -1,7 +1,7 @@
 //! Instructions that rows offer, and what is given to a tick that meets them.
 
 use crate::cpu_pipeline::harness::Numbers;
-use crate::rows::{Answer, Input, LOAD, NORMAL, Offer, Seen, Special};
+use crate::rows::{Answer, Input, LOAD, NORMAL, Offer, Seen, Special, Waits};
 
 pub const NOP: Offer = normal(0x00, [0; 3]);
 pub const CPUID: Offer = normal(0x11, [0; 3]);
@@ -36,5 +36,6 @@ pub fn given(offers: &[Offer], loaded: u32, seen: &Seen) -> Input {
             word: if loads { loaded } else { 0 },
         },
         special: Special::NotGiven,
+        waits: Waits::NONE,
     }
 }

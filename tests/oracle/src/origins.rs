@@ -63,13 +63,14 @@ pub fn shown(original: &mut Original, state: &State) -> Origins {
     }
 }
 
-/// Tells whether ID/EX executes in a tick; a HALT that retires in it empties ID/EX first.
+/// Tells whether ID/EX executes in a tick; a HALT that retires in it empties ID/EX first, and nothing does while a wait
+/// for the memory is left.
 fn executes(original: &mut Original, state: &State) -> bool {
     let halts = state.mem_wb.valid && state.mem_wb.halt;
-    state.running && !halts && state.id_ex.valid && !waits(original, state)
+    state.running && state.wait_left == 0 && !halts && state.id_ex.valid && !waits(original, state)
 }
 
-/// Tells whether a wait goes on or begins; a load-use stall comes before one that would begin.
+/// Tells whether a wait in EX goes on or begins; a load-use stall comes before one that would begin.
 fn waits(original: &mut Original, state: &State) -> bool {
     if state.ex_armed {
         state.ex_cycles_left > 1

@@ -2,7 +2,7 @@
 
 use crate::cpu_pipeline::harness::Numbers;
 use crate::rows::{
-    Decoded, ExMem, IdEx, IfId, Input, LOAD, MemWb, NORMAL, Offer, Raw, SHORT, Seen, State,
+    Decoded, ExMem, IdEx, IfId, Input, LOAD, MemWb, NORMAL, Offer, Raw, SHORT, Seen, State, Waits,
 };
 
 /// Accepted.
@@ -23,12 +23,27 @@ pub const COUNTER_FULL: u32 = 13;
 pub const LOG_FULL: u32 = 14;
 pub const BAD_ENTRY: u32 = 21;
 pub const ENTRY_CUT_SHORT: u32 = 22;
+pub const BAD_WAIT: u32 = 24;
 
-/// Tells the refusal by where the machine stands, or none.
+/// The longest wait of one fetch or load, and the most ticks left of waits: those of both together.
+pub const LONGEST_WAIT: u32 = 1_000;
+pub const MOST_LEFT: u32 = 2 * LONGEST_WAIT;
+
+/// Tells the refusal of a tick or of asking by where the machine stands, or none; while a wait is left nothing retires.
 pub fn standing(state: &State) -> u32 {
+    where_it_stands(state, state.wait_left == 0)
+}
+
+/// Tells the refusal of retirement by itself by where the machine stands, or none; it retires during a wait too.
+pub fn retirement(state: &State) -> u32 {
+    where_it_stands(state, true)
+}
+
+/// Tells the refusal by where a machine stands that is to retire or not, or none.
+fn where_it_stands(state: &State, retires: bool) -> u32 {
     if state_breaks(state) {
         OUT_OF_BOUNDS
-    } else if state.running && holds_what_never_retires(&state.mem_wb) {
+    } else if retires && state.running && holds_what_never_retires(&state.mem_wb) {
         NOT_RETIRABLE
     } else if a_counter_is_full(state) {
         COUNTER_FULL
@@ -43,6 +58,7 @@ pub fn offered(given: &Input, seen: &Seen) -> u32 {
         offer,
         answer,
         special,
+        waits,
     } = given;
     let of_the_instruction = match offer {
         Offer::Normal(offered) => instruction(offered),
@@ -52,6 +68,7 @@ pub fn offered(given: &Input, seen: &Seen) -> u32 {
         NONE if !is_wanted(offer, seen) => UNWANTED_OFFER,
         NONE if answer.given != (seen.request == LOAD) => UNWANTED_ANSWER,
         NONE if special.is_given() != seen.special => UNWANTED_SPECIAL,
+        NONE if waits_break(*waits, seen) => BAD_WAIT,
         code => code,
     }
 }
@@ -74,13 +91,24 @@ fn is_wanted(offer: &Offer, seen: &Seen) -> bool {
     }
 }
 
-/// Tells whether some latch or the wait of a state is out of bounds.
+/// Tells whether a wait is told that the tick which asks for this cannot have.
+fn waits_break(waits: Waits, seen: &Seen) -> bool {
+    wait_breaks(waits.fetch, seen.fetch) || wait_breaks(waits.load, seen.request == LOAD)
+}
+
+/// Tells whether a wait is too long, or told without what could wait.
+fn wait_breaks(ticks: u32, is_wanted: bool) -> bool {
+    ticks > LONGEST_WAIT || ticks > 0 && !is_wanted
+}
+
+/// Tells whether some latch or a wait of a state is out of bounds.
 pub fn state_breaks(state: &State) -> bool {
     if_id_breaks(&state.if_id)
         || id_ex_breaks(&state.id_ex)
         || ex_mem_breaks(&state.ex_mem)
         || destination_breaks(state.mem_wb.dest)
         || state.ex_cycles_left > 15
+        || state.wait_left > MOST_LEFT
 }
 
 /// Tells whether a fetched instruction is out of bounds, in a valid latch or not.

@@ -6,6 +6,7 @@ mod log;
 mod origin;
 mod special;
 mod state;
+mod waits;
 
 pub use instruction::{Decoded, Offer, Raw};
 pub use latch::{ExMem, IdEx, IfId, MemWb};
@@ -13,6 +14,7 @@ pub use log::{LOG_BYTES, LentLog, LogWords, ReadLog, bytes_of, words_of};
 pub use origin::{Origin, Origins};
 pub use special::Special;
 pub use state::{Answer, Begin, Given, Input, Redirect, Seen, State};
+pub use waits::Waits;
 
 /// Numbers of the two modes.
 pub const NORMAL: u32 = 0;

@@ -24,11 +24,11 @@ pub fn wanted_by(user: bool, latch: &IdEx) -> Option<u32> {
     }
 }
 
-/// Tells whether an MFSR in ID/EX executes; it begins no wait itself, but one may go on.
+/// Tells whether an MFSR in ID/EX executes; it begins no wait itself, but one may go on, in EX or for the memory.
 fn executes(state: &State) -> bool {
     let halts = state.mem_wb.valid && state.mem_wb.halt;
     let waits = state.ex_armed && state.ex_cycles_left > 1;
-    state.running && state.id_ex.valid && !halts && !waits
+    state.running && state.wait_left == 0 && state.id_ex.valid && !halts && !waits
 }
 
 /// Adds the register that a tick asks for to what else it asks for.

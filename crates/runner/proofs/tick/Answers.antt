@@ -12,7 +12,7 @@ returns-then-waits_on-clause-state c =
       room = c.requires.room;
       stages = c.retire-s.ensures.value;
       reg = c.retire-s.ensures.reg_after;
-    }) _ _ (sym c.waits_on.ensures ∙ c.if-waits_on.true) (rw (n.1.0, n.1.1) at c.wait-state.ensures)
+    }) _ _ (sym c.waits_on.ensures ∙ c.if-waits_on.true) (rw (n.1.0, n.1.1.0, n.1.1.1) at c.wait-state.ensures)
     c.count-state.ensures
 
 pub returns-clause-state : goal.returns-clause-state

@@ -8,10 +8,11 @@ const IDENTITY: u32 = 1;
 const FEATURES: u32 = 2;
 const IDENTIFICATION: u32 = 0x5352_4332;
 
-/// Gives the events of a tick that is not refused, in the order in which they are logged.
+/// Gives the events of a tick that is not refused, in the order in which they are logged; none while a wait for the
+/// memory is left.
 pub fn of_tick(state: &State, answer: &Answer) -> Vec<Event> {
     let mut events = Vec::new();
-    if state.running {
+    if state.running && state.wait_left == 0 {
         retire(&state.mem_wb, state.features, &mut events);
         events.extend(request(state, answer.word));
     }

@@ -2,7 +2,7 @@
 
 use super::Maker;
 use crate::cpu_pipeline::harness::Numbers;
-use crate::refusals::register_count;
+use crate::refusals::{MOST_LEFT, register_count};
 use crate::rows::{Decoded, IdEx, Raw, State};
 use crate::special_registers::MFSR;
 
@@ -11,10 +11,22 @@ const WITH_REGISTERS: [u32; 12] = [
     0x01, 0x02, 0x03, 0x04, 0x07, 0x0b, 0x10, 0x1b, 0x1f, 0x23, 0x24, 0x2a,
 ];
 
+/// Ticks left of a wait for the memory around their limit.
+const LEFT: [u32; 8] = [
+    MOST_LEFT - 1,
+    MOST_LEFT,
+    MOST_LEFT,
+    MOST_LEFT,
+    MOST_LEFT + 1,
+    MOST_LEFT + 1,
+    MOST_LEFT + 1,
+    0xffff_ffff,
+];
+
 impl Maker {
     /// Sets one bounded field of the state to its limit or past it.
     pub fn go_to_a_bound(&mut self, state: &mut State) {
-        match self.random.below(16) {
+        match self.random.below(18) {
             0 => state.if_id.raw = Raw::Normal(self.normal_at_some_bound()),
             1 => state.if_id.raw = Raw::Normal(self.normal_at_a_bound(MFSR)),
             2..6 => self.latch_to_a_bound(&mut state.id_ex),
@@ -30,12 +42,16 @@ impl Maker {
                 self.hold_what_never_retires(state);
                 state.ex_mem.dest = self.limit() + 1;
             }
+            15 | 16 => {
+                state.wait_left = self.random.pick(&LEFT);
+                state.running = self.random.chance(70);
+            }
             _ => self.hold_what_never_retires(state),
         }
     }
 
     /// Stops the machine with one counter at its top.
-    fn fill_one_of_a_stopped_machine(&mut self, state: &mut State) {
+    pub fn fill_one_of_a_stopped_machine(&mut self, state: &mut State) {
         state.running = false;
         self.fill_one(state);
     }
@@ -82,7 +98,7 @@ impl Maker {
     }
 
     /// Puts what never retires into MEM/WB, valid or not, of a running machine or not.
-    fn hold_what_never_retires(&mut self, state: &mut State) {
+    pub fn hold_what_never_retires(&mut self, state: &mut State) {
         match self.random.below(3) {
             0 => state.mem_wb.exception = self.exception(100),
             1 => state.mem_wb.mtsr = self.special_write(100),

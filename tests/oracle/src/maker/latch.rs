@@ -121,6 +121,7 @@ impl Maker {
             offer: Offer::Nothing,
             answer: self.answer(loads),
             special: self.special(true),
+            ..Input::NOTHING
         };
         self.original.tick(&before, &given).0.mem_wb
     }

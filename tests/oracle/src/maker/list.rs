@@ -50,9 +50,10 @@ impl Maker {
     /// Gives what fits, or now and then something else.
     pub fn given(&mut self, program: &Program, state: &State) -> Input {
         let mut given = self.fitting(program, state);
-        match self.random.below(if state.running { 100 } else { 20 }) {
+        let seen = self.seen(state);
+        given.waits = self.waits_of(&program.memory, &seen);
+        match self.random.below(if state.running { 104 } else { 26 }) {
             0..5 => {
-                let seen = self.seen(state);
                 let offer = self.spoiled_offer(&seen);
                 let spoiled = Input { offer, ..given };
                 if refusals::offered(&spoiled, &seen) != NONE {
@@ -72,6 +73,19 @@ impl Maker {
             13 => {
                 given.offer = self.spoiled_offer(&Seen::default());
                 given.special = self.special(!given.special.is_given());
+            }
+            14..17 => given.waits = self.refused_waits(&seen),
+            17 => {
+                given.waits = self.refused_waits(&seen);
+                given.special = self.special(!given.special.is_given());
+            }
+            18 => {
+                given.waits = self.refused_waits(&seen);
+                given.answer = self.answer(!given.answer.given);
+            }
+            19 => {
+                given.waits = self.refused_waits(&seen);
+                given.offer = self.spoiled_offer(&Seen::default());
             }
             _ => {}
         }

@@ -269,7 +269,7 @@ impl Maker {
     }
 
     /// Puts CPUID into one or both of the older latches, in front of users of R1 and R2.
-    fn identify(&mut self, state: &mut State) {
+    pub fn identify(&mut self, state: &mut State) {
         self.registers[..2].copy_from_slice(&[1, 2]);
         (state.ex_mem.cpuid, state.mem_wb.cpuid) =
             [(true, false), (false, true), (true, true)][self.random.below(3) as usize];
@@ -293,7 +293,7 @@ impl Maker {
     }
 
     /// Empties the latches, all four most often.
-    fn empty_latches(&mut self, state: &mut State) {
+    pub fn empty_latches(&mut self, state: &mut State) {
         state.if_id.valid = self.random.chance(10);
         state.id_ex.valid = self.random.chance(10);
         state.ex_mem.valid = self.random.chance(10);

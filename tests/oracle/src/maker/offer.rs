@@ -13,7 +13,7 @@ impl Maker {
         Case::Tick(state, self.input(&seen))
     }
 
-    /// Makes an offer and both answers, mostly those that are wanted.
+    /// Makes an offer and both answers, mostly those that are wanted, and waits now and then.
     pub fn input(&mut self, seen: &Seen) -> Input {
         let offer = if self.random.chance(88) {
             self.wanted_offer(seen)
@@ -26,6 +26,7 @@ impl Maker {
             offer,
             answer: self.answer(given),
             special: self.special(special_given),
+            waits: self.waits(seen),
         }
     }
 

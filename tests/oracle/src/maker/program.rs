@@ -2,9 +2,10 @@
 
 use super::Maker;
 use super::instruction::{BRANCHES, JUMPS, MUL_DIV};
+use super::memory::Memory;
 use crate::cpu_pipeline::harness::Numbers;
 use crate::refusals::{self, NONE};
-use crate::rows::{Begin, Input, LOAD, NORMAL, Offer, Seen, State};
+use crate::rows::{Begin, Input, LOAD, NORMAL, Offer, Seen, State, Waits};
 use crate::special_registers::MFSR;
 
 /// Arithmetic that does not wait, immediate loads, and ADDI for loops.
@@ -21,10 +22,11 @@ const OTHERS: [u32; 11] = [
     CPUID, CPUID, CPUID, 0x00, 0x00, 0x12, 0x12, 0x26, 0x27, 0x28, 0x2a,
 ];
 
-/// The instructions of both modes; addresses past the end begin again.
+/// The instructions of both modes, where addresses past the end begin again, and the memory that they stand in.
 pub struct Program {
     normal: Vec<Numbers>,
     short: Vec<u32>,
+    pub memory: Memory,
 }
 
 impl Program {
@@ -58,6 +60,7 @@ impl Maker {
             short: (normal_count..length)
                 .map(|_| self.listed_short())
                 .collect(),
+            memory: self.memory(),
         };
         if identifies {
             let place = self.random.below(normal_count) as usize;
@@ -130,7 +133,7 @@ impl Maker {
         begin
     }
 
-    /// Gives what the program, some memory and some special registers offer to a tick on this state.
+    /// Gives what the program, some memory and some special registers offer to a tick on this state, with no wait.
     pub fn fitting(&mut self, program: &Program, state: &State) -> Input {
         let seen = self.seen(state);
         let offer = if seen.fetch {
@@ -142,6 +145,7 @@ impl Maker {
             offer,
             answer: self.answer(seen.request == LOAD),
             special: self.special(seen.special),
+            waits: Waits::NONE,
         }
     }
 

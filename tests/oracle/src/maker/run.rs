@@ -154,6 +154,7 @@ impl Maker {
             7..11 => self.bring_counters_near_the_top(&mut state),
             11..13 => state.running = false,
             13..15 => self.load_behind_what_never_retires(&mut state),
+            15..20 => self.wait_before_a_run(&mut state),
             _ => {}
         }
         state
@@ -195,7 +196,7 @@ impl Maker {
     }
 
     /// Lets a load stand behind what never retires.
-    fn load_behind_what_never_retires(&mut self, state: &mut State) {
+    pub fn load_behind_what_never_retires(&mut self, state: &mut State) {
         state.mem_wb.valid = true;
         match self.random.below(3) {
             0 => state.mem_wb.exception = self.exception(100),
@@ -213,6 +214,7 @@ impl Maker {
     /// Chooses the tick limit.
     pub fn tick_limit(&mut self, state: &State, given: Given) -> u32 {
         match self.random.below(100) {
+            _ if state.wait_left > 0 && self.random.chance(40) => self.limit_around_the_wait(state),
             0..8 => self.random.pick(&[0, 1, 4, 5]),
             8..24 => self.random.below(60),
             24..62 => 20 + self.random.below(TRIED - 20),

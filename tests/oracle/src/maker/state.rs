@@ -19,6 +19,9 @@ impl Maker {
             self.trace_operands(&mut state, &mut latch);
             state.id_ex = latch;
         }
+        if self.random.chance(9) {
+            self.wait_for_the_memory(&mut state);
+        }
         if self.random.chance(15) {
             self.go_to_a_bound(&mut state);
         }

@@ -27,7 +27,7 @@ pub fn check_asking(original: &mut Original, state: &State) {
         return;
     }
     let (next, seen) = original.tick(state, &Input::NOTHING);
-    let executes = state.running && next.ex_mem.valid;
+    let executes = state.running && state.wait_left == 0 && next.ex_mem.valid;
     let shows = seen.origins != Origins::default();
     assert_eq!(shows, executes, "whether origins are shown");
     if executes {

@@ -1,6 +1,6 @@
 //! The whole state, what start is given, and what a tick is given and asks for.
 
-use super::{ExMem, IdEx, IfId, MemWb, Offer, Origins, Special};
+use super::{ExMem, IdEx, IfId, MemWb, Offer, Origins, Special, Waits};
 use crate::row::row;
 
 row! {
@@ -20,6 +20,7 @@ row! {
         mem_wb: MemWb,
         ex_cycles_left: u32,
         ex_armed: bool,
+        wait_left: u32,
         cycles: u64,
         running_cycles: u64,
         instructions_executed: u64,
@@ -53,11 +54,12 @@ row! {
         offer: Offer,
         answer: Answer,
         special: Special,
+        waits: Waits,
     }
 }
 
 impl Input {
-    /// No instruction and neither answer.
+    /// No instruction, neither answer and no wait.
     pub const NOTHING: Self = Self {
         offer: Offer::Nothing,
         answer: Answer {
@@ -65,6 +67,7 @@ impl Input {
             word: 0,
         },
         special: Special::NotGiven,
+        waits: Waits::NONE,
     };
 }
 

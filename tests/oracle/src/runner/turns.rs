@@ -3,7 +3,7 @@
 use super::{End, Run, Task};
 use crate::cpu_pipeline::harness::original::Original;
 use crate::refusals::{self, BAD_LENGTH, LIMIT_TOO_HIGH, NONE, OUT_OF_BOUNDS};
-use crate::rows::{Answer, Input, LOAD, Seen, State};
+use crate::rows::{Answer, Input, LOAD, Seen, State, Waits};
 use crate::sheet;
 use crate::special_registers;
 
@@ -93,6 +93,7 @@ fn fed_tick(
         offer: sheet::offer(task.sheet, pc, mode),
         answer,
         special,
+        waits: Waits::NONE,
     };
     let (pc, mode) = (state.fetch_pc, state.fetch_mode);
     let (next, seen) = original.tick(state, &given_at(pc, mode));

@@ -1,31 +1,33 @@
-//! A cache that never waits and tells the bus which access comes next.
+//! A cache that waits as long as the harness says and tells the bus which access comes next.
 
 use super::bus::{Announced, Bus};
 use std::cell::{Cell, RefCell};
 use std::rc::Rc;
 
-/// The line to the bus.
+/// The line to the bus, and the ticks that each fetch and each load costs.
 pub struct L1Cache {
     pub miss_penalty: u32,
+    pub fetch_wait: u32,
+    pub load_wait: u32,
     announced: Rc<Cell<Announced>>,
 }
 
 impl L1Cache {
-    /// Announces a load and costs no tick.
+    /// Announces a load and gives the ticks that it costs.
     pub fn load(&mut self, _pa: u32) -> u32 {
         self.announced.set(Announced::Load);
-        0
+        self.load_wait
     }
 
-    /// Announces a store.
+    /// Announces a store, which costs no tick.
     pub fn store(&mut self, _pa: u32) {
         self.announced.set(Announced::Store);
     }
 
-    /// Announces a fetch and costs no tick.
+    /// Announces a fetch and gives the ticks that it costs.
     pub fn fetch(&mut self, _pa: u32) -> u32 {
         self.announced.set(Announced::Fetch);
-        0
+        self.fetch_wait
     }
 
     /// Holds nothing to reset.
@@ -45,6 +47,8 @@ pub fn connect_cache(bus: &mut Bus) -> Rc<RefCell<L1Cache>> {
     let announced = Rc::clone(&bus.announced);
     Rc::new(RefCell::new(L1Cache {
         miss_penalty: 0,
+        fetch_wait: 0,
+        load_wait: 0,
         announced,
     }))
 }

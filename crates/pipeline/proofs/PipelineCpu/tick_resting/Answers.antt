@@ -1,8 +1,8 @@
--- Nothing moves: the given is tested, then a tick is counted.
+-- Nothing moves: the given is tested, then the tick is counted.
 use Rattle.std.proofs.Common.{◌∙◌, sym}
 use Rattle.std.proofs.lemmas.Result.{err_from_is_err_and}
 use Rattle.pipeline.proofs.Refusing.{on_passes, on_refuses}
-use Rattle.pipeline.proofs.Resting.{idles_by, rest_given, rest_next}
+use Rattle.pipeline.proofs.Resting.{rest_given, rest_next}
 use Rattle.pipeline.proofs.PipelineCpu.tick_resting.Goals as goal
 
 pub returns-in_err-check : goal.returns-in_err-check
@@ -13,4 +13,4 @@ returns-in_err-check c =
 pub returns : goal.returns
 returns c =
     on_passes _ _ _ (rest_given _ c.requires.rests _) _ (sym c.in_ok-check.ensures)
-    (idles_by _ c.requires.room _ c.idle.ensures ∙ rest_next _ c.requires.rests _)
+    (c.rest.ensures ∙ rest_next _ c.requires.rests _)

@@ -24,6 +24,7 @@ pub fn state(core: &PipelineCpu, features: u32, words: &UnknownWords) -> rows::S
         mem_wb: mem_wb(&core.mem_wb),
         ex_cycles_left: core.ex_cycles_left,
         ex_armed: core.ex_armed,
+        wait_left: core.cache_stall,
         cycles: core.cycles as u64,
         running_cycles: core.running_cycles as u64,
         instructions_executed: core.instructions_executed as u64,

@@ -28,6 +28,7 @@ pub fn state(
     core.mem_wb = mem_wb(&row.mem_wb);
     core.ex_cycles_left = row.ex_cycles_left;
     core.ex_armed = row.ex_armed;
+    core.cache_stall = row.wait_left;
     core.cycles = row.cycles.into();
     core.running_cycles = row.running_cycles.into();
     core.instructions_executed = row.instructions_executed.into();

@@ -5,7 +5,7 @@ use super::unknown_words::UnknownWords;
 use super::{PipelineCpu, feature_word, from_core, register_block, special_register};
 use crate::bus::Request;
 use crate::origins;
-use crate::rows::{Input, LOAD, NORMAL, Offer, SHORT, STORE, Seen, Special, State};
+use crate::rows::{Input, LOAD, NORMAL, Offer, SHORT, STORE, Seen, Special, State, Waits};
 use crate::special_registers;
 
 impl Original {
@@ -15,6 +15,7 @@ impl Original {
             offer,
             answer,
             special,
+            waits,
         } = *given;
         let mut words = UnknownWords::of(state, &offer);
         let fetch = match offer {
@@ -23,17 +24,24 @@ impl Original {
             Offer::Short(halfword) => halfword,
         };
         self.load(state, &mut words);
-        self.core.bus.prepare(fetch, answer.word);
+        self.prepare(fetch, answer.word, waits);
         self.tick_loaded(state, special);
         if was_denied(&self.core, state) {
             self.load(state, &mut words);
-            self.core.bus.prepare(fetch, answer.word);
+            self.prepare(fetch, answer.word, waits);
             self.tick_without_protection(state, special);
         }
         let next = from_core::state(&self.core, state.features, &words);
         let seen = special_registers::name(seen(&self.core), state);
         let origins = origins::shown(self, state);
         (next, Seen { origins, ..seen })
+    }
+
+    /// Sets what the memory gives a fetch and a load, and how long it takes.
+    fn prepare(&mut self, fetch: u32, load: u32, waits: Waits) {
+        self.core.bus.prepare(fetch, load);
+        let mut cache = self.core.cache.borrow_mut();
+        (cache.fetch_wait, cache.load_wait) = (waits.fetch, waits.load);
     }
 
     /// Tells what a tick asks for.
@@ -62,9 +70,10 @@ impl Original {
     fn tick_loaded(&mut self, state: &State, special: Special) {
         let core = &mut self.core;
         let held = core.id_ex;
-        let features = other_features(state).filter(|_| state.running);
+        let moves = state.running && state.wait_left == 0;
+        let features = other_features(state).filter(|_| moves);
         let lent = features.and_then(|features| feature_word::put_in_place(core, features));
-        if state.running {
+        if moves {
             special_register::put_in_place(core, special);
         }
         let altered = core.id_ex;
