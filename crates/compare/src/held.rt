@@ -1,5 +1,5 @@
 // What is held from line to line: the state of a list of ticks, the sheet, the load answers, the table of special
-// registers and the log.
+// registers, the log and the list of places.
 use crate::case::Case;
 use crate::cases::{arithmetic, asked, code, latency, retired, short_operands};
 use crate::failure::Failure;
@@ -8,6 +8,7 @@ use crate::kind::Kind;
 use crate::line::{Line, ToNumbers};
 use crate::logs::{HeldLog, logged, reading};
 use crate::numbers::{FromNumbers, Malformed};
+use crate::places::HeldPlaces;
 use crate::reports::Report;
 use isa::{Decoded, ShortInstruction, Start};
 use pipeline::PipelineCpu;
@@ -24,6 +25,7 @@ pub struct Held {
     answers: Vec<u32>,
     table: Vec<u32>,
     log: HeldLog,
+    places: HeldPlaces,
 }
 
 // The first so many. `as`, here and in `put`, since the library has no `From` of 32 bits for `usize`.
@@ -55,6 +57,7 @@ impl Held {
             answers: vec![in alloc; 0; 4096]?,
             table: vec![in alloc; 0; 65600]?,
             log: HeldLog::new(alloc)?,
+            places: HeldPlaces::new(alloc)?,
         })
     }
 
@@ -101,6 +104,8 @@ impl Held {
             Kind::HeldLogBytes => case.try_answer(|at| self.log.bytes_at(at)),
             Kind::HeldRead => case.try_answer(|place| self.log.read(place)),
             Kind::Read => case.try_answer(reading),
+            Kind::Trades => self.trades(case),
+            Kind::HeldPlaces => case.try_answer(|at| self.places.entries_at(at)),
         }
     }
 
@@ -127,6 +132,14 @@ impl Held {
         let ticked = self.log.tick(self.state, case.input()?)?;
         self.state = ticked.state;
         Ok(Some(Line::of(self.alloc, (code(ticked.outcome), self.log.free))?))
+    }
+
+    // Where neighbours of the sheet held may trade places: the code and how many places the list held has now.
+    fn trades(&mut self, case: Case<'_>) -> Result<Option<Line>, Failure> {
+        let (bytes, lent): (u32, (u32, u16)) = case.input()?;
+        let sheet = first(self.sheet.as_slice(), bytes)?;
+        let listed = self.places.list(sheet, lent)?;
+        Ok(Some(Line::of(self.alloc, listed)?))
     }
 
     fn show(&self, case: Case<'_>) -> Result<Option<Line>, Failure> {

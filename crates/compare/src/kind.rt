@@ -32,6 +32,8 @@ pub enum Kind {
     HeldLogBytes,
     HeldRead,
     Read,
+    Trades,
+    HeldPlaces,
 }
 
 impl TryFrom<u32> for Kind {
@@ -68,6 +70,8 @@ impl TryFrom<u32> for Kind {
             0x1B => Kind::HeldLogBytes,
             0x1C => Kind::HeldRead,
             0x1D => Kind::Read,
+            0x1E => Kind::Trades,
+            0x1F => Kind::HeldPlaces,
             _ => return Err(Malformed),
         })
     }

@@ -16,6 +16,7 @@ mod line;
 mod logs;
 mod numbers;
 mod options;
+mod places;
 mod replies;
 mod reports;
 mod requests;

@@ -123,6 +123,15 @@ impl<const N: usize> ToNumbers for [u32; N] {
     }
 }
 
+impl<const N: usize> ToNumbers for [u16; N] {
+    fn to_numbers(self, line: &mut Line) -> Result<(), AllocError> {
+        for half in self {
+            line.write(half)?;
+        }
+        Ok(())
+    }
+}
+
 // Each length of a tuple has an impl of its own, as in the library.
 impl<A: FromNumbers, B: FromNumbers> FromNumbers for (A, B) {
     fn from_numbers(numbers: &mut Numbers<'_>) -> Result<(A, B), Malformed> {

@@ -3,7 +3,8 @@ use Rattle.std.specs.Prelude.{ℕ}
 use Rattle.refusal.specs.declared.Refusal.{Refusal}
 use Rattle.refusal.specs.declared.Refusal.TheVariants.{BadAnswer, BadCommand, BadLength, BadLimit, BadOffer}
 use Rattle.refusal.specs.declared.Refusal.TheVariants.{BadEntry, BadRegister, BadSpecial, BadWait, CounterFull, Faulty}
-use Rattle.refusal.specs.declared.Refusal.TheVariants.{HighPreview, LogFull, LongPreview, OutOfBounds, ShortLog}
+use Rattle.refusal.specs.declared.Refusal.TheVariants.{HighPreview, LogFull, LongPreview, OutOfBounds, ShortList}
+use Rattle.refusal.specs.declared.Refusal.TheVariants.{ShortLog}
 
 -- the number of a refusal
 unfoldable pub number_of : Refusal → ℕ
@@ -20,6 +21,7 @@ number_of OutOfBounds = 11
 number_of Faulty = 12
 number_of CounterFull = 13
 number_of LogFull = 14
+number_of ShortList = 15
 number_of BadEntry = 21
 number_of ShortLog = 22
 number_of BadWait = 24

@@ -36,6 +36,8 @@ pub enum Refusal {
     CounterFull = 13,
     // A log without room for the tick's events.
     LogFull = 14,
+    // A list of places shorter than the number of neighbouring pairs.
+    ShortList = 15,
     // A log's entry with an unknown command, a register outside 1 to 31, or a width other than 0, 1, 2, 4.
     BadEntry = 21,
     // A log that ends inside an entry.

@@ -54,7 +54,7 @@ none_before l k (suc n) j p q = split (is_err (check_at l k))
     (λ u. let h : j ≡ k = omega (arith, ltb-false k j u) in rw h (accepted (check_at l k) t)))
 
 -- where the first so many records are accepted, each of them is
-each_ok : (l : List ℕ) (n j : ℕ) → first_check l n ≡ Ok tt → j < n → check_at l j ≡ Ok tt
+pub each_ok : (l : List ℕ) (n j : ℕ) → first_check l n ≡ Ok tt → j < n → check_at l j ≡ Ok tt
 unfolding first_check
 each_ok l n j e q = split (ltb (first_refused l 0 n) n)
     (λ t. let h : first_refused l 0 n < 0 + n = omega (arith, ltb-true (first_refused l 0 n) n t) in
@@ -62,7 +62,15 @@ each_ok l n j e q = split (ltb (first_refused l 0 n) n)
     let z : is_err (check_at l (first_refused l 0 n)) ≡ true = first_has l 0 n h in absurd (let y = rw g at z in cc))
     (λ t. none_before l 0 n j (omega arith) (omega (arith, ltb-false (first_refused l 0 n) n t)))
 
-first : (l : List ℕ) → sheet_check l ≡ Ok tt → first_check l (length l / 5) ≡ Ok tt
+-- and where each of them is, so are they all
+pub all_ok : (l : List ℕ) (n : ℕ) → ((j : ℕ) → j < n → check_at l j ≡ Ok tt) → first_check l n ≡ Ok tt
+unfolding first_check
+all_ok l n h = split (ltb (first_refused l 0 n) n)
+    (λ t. let b : first_refused l 0 n < n = ltb-true (first_refused l 0 n) n t in
+    absurd (let z = rw (h (first_refused l 0 n) b) at (first_has l 0 n (omega arith)) in cc))
+    (λ t. rw t refl)
+
+pub first : (l : List ℕ) → sheet_check l ≡ Ok tt → first_check l (length l / 5) ≡ Ok tt
 unfolding sheet_check
 first l e = split (bad_length (length l))
     (λ t. absurd (let z = rw t at e in cc))

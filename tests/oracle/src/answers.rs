@@ -1,5 +1,5 @@
-//! The expected answer to each case: the original's, behind the refusals of RULES 19; plays, origins and the card log
-//! are a reading's.
+//! The expected answer to each case: the original's, behind the refusals of RULES 19; plays, origins, the card log and
+//! the list of places are a reading's.
 
 mod logs;
 
@@ -14,17 +14,20 @@ use crate::panel;
 use crate::player;
 use crate::refusals::{self, NONE, OUT_OF_BOUNDS, UNWANTED_SPECIAL};
 use crate::row::Row;
-use crate::rows::{Begin, Decoded, Given, IdEx, IfId, Input, Seen, Special, State};
+use crate::rows::{Begin, Decoded, Given, IdEx, IfId, Input, LentList, Seen, Special, State};
 use crate::runner;
 use crate::special_registers;
+use crate::trades::{self, HeldList};
 
-/// Answers cases one after the other, and holds the state and the log of the list under way and the buffers of runs.
+/// Answers cases one after the other, and holds the state and the log of the list under way, the buffers of runs, and
+/// the list of places.
 pub struct Answers {
     original: Original,
     arithmetic: Arithmetic,
     held: State,
     log: HeldLog,
     buffers: Buffers,
+    list: HeldList,
 }
 
 impl Answers {
@@ -45,6 +48,7 @@ impl Answers {
             held,
             log: HeldLog::new(&held),
             buffers: Buffers::new(),
+            list: HeldList::new(),
         }
     }
 
@@ -80,6 +84,8 @@ impl Answers {
             Case::LogShow(at) => self.log.block(*at).put(out),
             Case::LogRead(length, place) => self.log.read(*length, *place).put(out),
             Case::Reads(log) => logs::read(log).put(out),
+            Case::Trades(lent) => self.trades(lent, out),
+            Case::TradesShow(at) => self.list.block(*at).put(out),
         }
         case.has_a_result()
     }
@@ -142,9 +148,17 @@ impl Answers {
         panel::preview(&mut self.original, state, &task).put(out);
     }
 
+    /// Lists where neighbours of the sheet held may trade places.
+    fn trades(&mut self, lent: &LentList, out: &mut Vec<u32>) {
+        let sheet = self.buffers.first_of_sheet(lent.sheet_length);
+        let list = self.list.lent(lent.length, lent.fill as u16);
+        trades::places(sheet, list).put(out);
+    }
+
     /// Panics if a case is a play that differs from the original's run of the same sheet, a tick whose question for a
-    /// special register is not the original's, one with origins or events that the original does not show, or the end
-    /// of a list whose log reads otherwise than it was written.
+    /// special register is not the original's, one with origins or events that the original does not show, the end of a
+    /// list whose log reads otherwise than it was written, or a sheet with a listed place whose orders the original
+    /// tells apart.
     pub fn check(&mut self, case: &Case) {
         let original = &mut self.original;
         match case {
@@ -160,6 +174,10 @@ impl Answers {
                 origins::check_forwarding(original, state, *register);
             }
             Case::Execute(state, latch, _) => origins::check_execution(original, state, latch),
+            Case::Trades(lent) => {
+                let sheet = self.buffers.first_of_sheet(lent.sheet_length);
+                trades::check(original, sheet, lent.fill);
+            }
             _ => {}
         }
     }

@@ -68,10 +68,15 @@ impl Buffers {
         std::array::from_fn(|place| self.table[at + place])
     }
 
+    /// Gives the sheet of so many bytes.
+    pub fn first_of_sheet(&self, length: u32) -> &[u8] {
+        &self.sheet[..length as usize]
+    }
+
     /// Gives what a run is given besides the state.
     pub fn task(&self, given: &Given) -> Task<'_> {
         Task {
-            sheet: &self.sheet[..given.sheet_length as usize],
+            sheet: self.first_of_sheet(given.sheet_length),
             answers: &self.answers[..given.answer_count as usize],
             table: &self.table[..given.table_length as usize],
             limit: given.limit,

@@ -9,7 +9,9 @@ pub use names::result_names;
 
 use crate::buffers::Block;
 use crate::cpu_pipeline::harness::Numbers;
-use crate::rows::{Begin, Decoded, Given, IdEx, IfId, Input, LentLog, ReadLog, Special, State};
+use crate::rows::{
+    Begin, Decoded, Given, IdEx, IfId, Input, LentList, LentLog, ReadLog, Special, State,
+};
 
 /// One question.
 #[derive(Debug, Clone, Copy, PartialEq, Eq)]
@@ -47,6 +49,8 @@ pub enum Case {
     /// How much of the log held is read, and the place.
     LogRead(u32, u64),
     Reads(ReadLog),
+    Trades(LentList),
+    TradesShow(u32),
 }
 
 impl Case {
@@ -61,6 +65,7 @@ impl Case {
                 | Case::Start(_)
                 | Case::ListShow
                 | Case::LogShow(_)
+                | Case::TradesShow(_)
         );
         self.has_a_result() && !without && self.given().is_none()
     }

@@ -1,5 +1,7 @@
 //! A small pseudo-random generator with a fixed start.
 
+use crate::edge_words::EDGE_WORDS;
+
 /// State of the splitmix64 generator.
 pub struct Generator(u64);
 
@@ -25,6 +27,15 @@ impl Generator {
             word
         } else {
             word.wrapping_neg()
+        }
+    }
+
+    /// Gives a word at a limit or any word.
+    pub fn limit_or_word(&mut self) -> u32 {
+        if self.chance(30) {
+            self.pick(&EDGE_WORDS)
+        } else {
+            self.word()
         }
     }
 

@@ -29,6 +29,9 @@ mod sheet;
 mod special_registers;
 pub mod stand_ins;
 pub mod tickrun;
+pub mod trade_pairs;
+pub mod trade_rows;
+mod trades;
 pub mod wait_rows;
 
 use stand_ins::{bus, cpu, cpu_cache, devices, tracing};

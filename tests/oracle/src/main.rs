@@ -9,6 +9,8 @@ const USAGE: &str = "usage:
   oracle origin-rows
   oracle log-rows
   oracle wait-rows
+  oracle trade-rows
+  oracle trade-pairs COUNT SEED
   oracle tickrun
   oracle compare PROGRAM KIND COUNT SEED
   oracle cases KIND COUNT SEED
@@ -27,6 +29,10 @@ fn run(words: &[&str]) -> Result<bool> {
         ["origin-rows"] => oracle::origin_rows::run(out()),
         ["log-rows"] => oracle::log_rows::run(out()),
         ["wait-rows"] => oracle::wait_rows::run(out()),
+        ["trade-rows"] => oracle::trade_rows::run(out()),
+        ["trade-pairs", count, seed] => {
+            oracle::trade_pairs::run(number(count)?, number(seed)?, out())
+        }
         ["tickrun"] => oracle::tickrun::run(stdin().lock(), out()).map(|()| true),
         ["answer"] => oracle::answer::run(stdin().lock(), out()).map(|()| true),
         ["compare", program, of, count, seed] => {

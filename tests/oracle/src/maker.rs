@@ -29,12 +29,12 @@ mod special;
 mod special_records;
 mod state;
 mod table;
+mod trades;
 
 use crate::answers::Answers;
 use crate::buffers::Buffers;
 use crate::case::{Case, Kind};
 use crate::cpu_pipeline::harness::original::Original;
-use crate::edge_words::EDGE_WORDS;
 use crate::generator::Generator;
 use crate::rows::{NORMAL, SHORT};
 use fuzz::Background;
@@ -81,7 +81,7 @@ impl Maker {
         }
     }
 
-    /// Appends the next case of a kind, or all the lines of the next list, run, play or preview.
+    /// Appends the next case of a kind, or all the lines of the next list, run, play, preview or check for trades.
     pub fn next(&mut self, kind: Kind, out: &mut Vec<Case>) {
         self.choose_few();
         let case = match kind {
@@ -106,16 +106,19 @@ impl Maker {
             Kind::Logged => self.logged(),
             Kind::Reads => self.reads(),
             Kind::LogLists => return self.log_list(out),
+            Kind::Trades => return self.trades(false, out),
         };
         out.push(case);
     }
 
-    /// Appends the same, but a run, play or preview whose records and answers keep to a line of each buffer.
+    /// Appends the same, but a run, play, preview or check for trades whose records and answers keep to a line of each
+    /// buffer.
     pub fn next_small(&mut self, kind: Kind, out: &mut Vec<Case>) {
         let small: fn(&mut Self, bool, &mut Vec<Case>) = match kind {
             Kind::Runs => Self::run,
             Kind::Player => Self::player,
             Kind::Panel => Self::panel,
+            Kind::Trades => Self::trades,
             _ => return self.next(kind, out),
         };
         self.choose_few();
@@ -128,7 +131,7 @@ impl Maker {
             self.registers[place] = self.fresh_register();
         }
         for place in 0..self.words.len() {
-            self.words[place] = self.fresh_word();
+            self.words[place] = self.random.limit_or_word();
         }
         if self.random.chance(15) {
             self.words = [0x8000_0000, 0xffff_ffff, self.random.below(2)];
@@ -137,7 +140,7 @@ impl Maker {
             0 => 0,
             1 => 0xffff_ff80,
             2 => 0xfffe_fff0,
-            _ => self.fresh_word(),
+            _ => self.random.limit_or_word(),
         };
     }
 
@@ -151,15 +154,6 @@ impl Maker {
             4 => self.random.pick(&[3, 14, 15, 16, 30]),
             5..8 => self.random.below(15),
             _ => self.random.below(32),
-        }
-    }
-
-    /// Gives a word at a limit or any word.
-    fn fresh_word(&mut self) -> u32 {
-        if self.random.chance(30) {
-            self.random.pick(&EDGE_WORDS)
-        } else {
-            self.random.word()
         }
     }
 
@@ -179,7 +173,7 @@ impl Maker {
             let words = self.words;
             self.random.pick(&words)
         } else {
-            self.fresh_word()
+            self.random.limit_or_word()
         }
     }
 
@@ -189,7 +183,7 @@ impl Maker {
             0..6 => self.base.wrapping_add(4 * self.random.below(16)),
             6 | 7 => self.base.wrapping_add(self.random.below(64)),
             8 => 0u32.wrapping_sub(self.random.below(9)),
-            _ => self.fresh_word(),
+            _ => self.random.limit_or_word(),
         }
     }
 

@@ -21,6 +21,7 @@ pub const OUT_OF_BOUNDS: u32 = 11;
 pub const NOT_RETIRABLE: u32 = 12;
 pub const COUNTER_FULL: u32 = 13;
 pub const LOG_FULL: u32 = 14;
+pub const SHORT_LIST: u32 = 15;
 pub const BAD_ENTRY: u32 = 21;
 pub const ENTRY_CUT_SHORT: u32 = 22;
 pub const BAD_WAIT: u32 = 24;

@@ -2,6 +2,7 @@
 
 mod instruction;
 mod latch;
+mod list;
 mod log;
 mod origin;
 mod special;
@@ -10,6 +11,7 @@ mod waits;
 
 pub use instruction::{Decoded, Offer, Raw};
 pub use latch::{ExMem, IdEx, IfId, MemWb};
+pub use list::LentList;
 pub use log::{LOG_BYTES, LentLog, LogWords, ReadLog, bytes_of, words_of};
 pub use origin::{Origin, Origins};
 pub use special::Special;

@@ -33,6 +33,7 @@ pub fn run(cases: &str, count: u64, seed: u64, mut out: impl Write) -> Result<bo
     choice.take_best(&[Kind::Runs], seed);
     choice.take_best(&[Kind::Player], seed);
     choice.take_best(&[Kind::Panel], seed);
+    choice.take_best(&[Kind::Trades], seed);
     choice.search_each(count, seed);
     let text = choice.text();
     out.write_all(&text)?;

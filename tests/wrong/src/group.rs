@@ -1,4 +1,5 @@
-//! Case lines that need no others: one case, a list from its start on, or a run, play or preview with what it is given.
+//! Case lines that need no others: one case, a list from its start on, or a run, play, preview or check for trades with
+//! what it is given.
 
 use crate::asked::{self, Asked};
 use crate::buffers::{BLOCK_BYTES, BLOCK_WORDS, Buffers};
@@ -95,7 +96,7 @@ impl Source {
         }
     }
 
-    /// Gives the cases of the next group of a kind; runs, plays and previews are small ones if asked for.
+    /// Gives the cases of the next group of a kind; runs, plays, previews and checks are small ones if asked for.
     pub fn next(&mut self, kind: Kind, small: bool) -> Vec<Case> {
         let mut cases = Vec::new();
         if small {
@@ -103,14 +104,11 @@ impl Source {
         } else {
             self.maker.next(kind, &mut cases);
         }
-        if let Some(&last) = cases.last()
-            && let Some(given) = last.given()
-        {
-            cases.iter().for_each(|case| self.hold(case));
-            cases = self.puts(&last, given);
-            cases.push(last);
-        }
-        cases
+        cases.iter().for_each(|case| self.hold(case));
+        let asking = cases.iter().position(|case| !is_a_put(case));
+        let behind = cases.split_off(asking.unwrap_or(cases.len()));
+        let puts = behind.first().map_or(Vec::new(), |case| self.puts(case));
+        puts.into_iter().chain(behind).collect()
     }
 
     /// Puts what a line puts.
@@ -123,15 +121,30 @@ impl Source {
         }
     }
 
+    /// Gives the lines that put all that a case is given, nothing for one without a sheet.
+    fn puts(&self, case: &Case) -> Vec<Case> {
+        match case {
+            Case::Trades(lent) => self.sheet_puts(lent.sheet_length).collect(),
+            _ => case
+                .given()
+                .map_or(Vec::new(), |given| self.run_puts(case, given)),
+        }
+    }
+
     /// Gives the lines that put all that a run, play or preview is given; of the table, what its MFSRs may read.
-    fn puts(&self, case: &Case, given: &Given) -> Vec<Case> {
-        let sheet = (0..given.sheet_length as usize).step_by(BLOCK_BYTES);
+    fn run_puts(&self, case: &Case, given: &Given) -> Vec<Case> {
+        let sheet = self.sheet_puts(given.sheet_length);
         let answers = (0..given.answer_count as usize).step_by(BLOCK_WORDS);
-        let sheet = sheet.map(|at| Case::PutSheet(at as u32, self.held.sheet_block(at)));
         let answers = answers.map(|at| Case::PutAnswers(at as u32, self.held.answer_block(at)));
         let table = self.table_places(case, given).into_iter();
         let table = table.map(|at| Case::PutTable(at as u32, self.held.table_block(at)));
         sheet.chain(answers).chain(table).collect()
+    }
+
+    /// Gives the lines that put a sheet of so many bytes.
+    fn sheet_puts(&self, length: u32) -> impl Iterator<Item = Case> {
+        let places = (0..length as usize).step_by(BLOCK_BYTES);
+        places.map(|at| Case::PutSheet(at as u32, self.held.sheet_block(at)))
     }
 
     /// Gives the places of the lines that hold a special register of the sheet or of a latch, or one that it may be
@@ -146,6 +159,14 @@ impl Source {
         held.map(|number| number as usize / BLOCK_WORDS * BLOCK_WORDS)
             .collect()
     }
+}
+
+/// Tells whether a line puts something into a buffer.
+fn is_a_put(case: &Case) -> bool {
+    matches!(
+        case,
+        Case::PutSheet(..) | Case::PutAnswers(..) | Case::PutTable(..)
+    )
 }
 
 /// Gives the special registers that an MFSR in IF/ID or ID/EX of a run's or preview's state reads.

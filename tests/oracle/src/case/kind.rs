@@ -26,10 +26,11 @@ pub enum Kind {
     Logged,
     Reads,
     LogLists,
+    Trades,
 }
 
 /// Every kind with its name.
-const NAMES: [(Kind, &str); 21] = [
+const NAMES: [(Kind, &str); 22] = [
     (Kind::Arithmetic, "arithmetic"),
     (Kind::Halfwords, "halfwords"),
     (Kind::Operands, "operands"),
@@ -51,13 +52,21 @@ const NAMES: [(Kind, &str); 21] = [
     (Kind::Logged, "logged"),
     (Kind::Reads, "reads"),
     (Kind::LogLists, "loglists"),
+    (Kind::Trades, "trades"),
 ];
 
-/// The kinds that need a sheet.
-const OVER_A_SHEET: [Kind; 4] = [Kind::Runs, Kind::Fuzz, Kind::Player, Kind::Panel];
+/// The kinds that need a sheet, and those of them that need load answers and a table.
+const OVER_A_SHEET: [Kind; 5] = [
+    Kind::Runs,
+    Kind::Fuzz,
+    Kind::Player,
+    Kind::Panel,
+    Kind::Trades,
+];
+const WITH_ANSWERS: [Kind; 4] = [Kind::Runs, Kind::Fuzz, Kind::Player, Kind::Panel];
 
 impl Kind {
-    /// Gives every kind without runs, plays and previews of a sheet.
+    /// Gives every kind without runs, plays, previews and checks of a sheet.
     pub fn without_runs() -> impl Iterator<Item = Kind> + Clone {
         let kinds = NAMES.iter().map(|&(kind, _)| kind);
         kinds.filter(|kind| !OVER_A_SHEET.contains(kind))
@@ -82,7 +91,8 @@ impl Kind {
             Case::ListStart(_) | Case::ListTick(..) | Case::ListShow => {
                 &[Kind::Lists, Kind::LogLists]
             }
-            Case::PutSheet(..) | Case::PutAnswers(..) | Case::PutTable(..) => &OVER_A_SHEET,
+            Case::PutSheet(..) => &OVER_A_SHEET,
+            Case::PutAnswers(..) | Case::PutTable(..) => &WITH_ANSWERS,
             Case::Run(..) => &[Kind::Runs, Kind::Fuzz],
             Case::Player(..) => &[Kind::Player],
             Case::Panel(..) => &[Kind::Panel],
@@ -91,6 +101,7 @@ impl Kind {
             Case::HoldLog(..) | Case::LogTick(_) | Case::LogShow(_) | Case::LogRead(..) => {
                 &[Kind::LogLists]
             }
+            Case::Trades(_) | Case::TradesShow(_) => &[Kind::Trades],
         };
         kinds.contains(&self)
     }

@@ -49,6 +49,8 @@ pub fn result_names(case: &Case) -> Vec<String> {
         | Case::LogShow(_)
         | Case::LogRead(..)
         | Case::Reads(_) => log_names(case, &mut names),
+        Case::Trades(_) => names.push("count".to_string()),
+        Case::TradesShow(_) => Block::names("list", &mut names),
     }
     names
 }

@@ -5,7 +5,8 @@ use crate::buffers::{ANSWERS, BLOCK_BYTES, BLOCK_WORDS, Block, SHEET_BYTES, TABL
 use crate::card_log::HELD_BYTES;
 use crate::cpu_pipeline::harness::{Numbers, operands};
 use crate::row::Row;
-use crate::rows::{Given, LOG_BYTES, LentLog, ReadLog};
+use crate::rows::{Given, LOG_BYTES, LentList, LentLog, ReadLog};
+use crate::trades::HELD_ENTRIES;
 
 impl Case {
     /// Gives the number that a case's line begins with.
@@ -40,6 +41,8 @@ impl Case {
             Case::LogShow(..) => 0x1b,
             Case::LogRead(..) => 0x1c,
             Case::Reads(..) => 0x1d,
+            Case::Trades(..) => 0x1e,
+            Case::TradesShow(..) => 0x1f,
         }
     }
 
@@ -76,8 +79,9 @@ impl Case {
             Case::HoldLog(length, place) | Case::LogRead(length, place) => {
                 put_both(length, place, out);
             }
-            Case::LogShow(at) => at.put(out),
+            Case::LogShow(at) | Case::TradesShow(at) => at.put(out),
             Case::Reads(log) => log.put(out),
+            Case::Trades(lent) => lent.put(out),
         }
     }
 
@@ -121,6 +125,8 @@ impl Case {
             0x1b => Case::LogShow(read_log_place(rest)?),
             0x1c => read_log_part(rest, Case::LogRead)?,
             0x1d => Case::Reads(read_short_log(rest)?),
+            0x1e => Case::Trades(read_lent_list(rest)?),
+            0x1f => Case::TradesShow(read_list_place(rest)?),
             _ => return None,
         })
     }
@@ -178,4 +184,18 @@ fn read_log_part(rest: &mut &[u32], case: fn(u32, u64) -> Case) -> Option<Case> 
 /// Reads where the part of the log held that is shown begins.
 fn read_log_place(rest: &mut &[u32]) -> Option<u32> {
     u32::take(rest).filter(|&at| at as usize <= HELD_BYTES - BLOCK_BYTES)
+}
+
+/// Reads how much of the sheet and of the list held is lent, within both, and what fills the list.
+fn read_lent_list(rest: &mut &[u32]) -> Option<LentList> {
+    LentList::take(rest).filter(|lent| {
+        lent.sheet_length as usize <= SHEET_BYTES
+            && lent.length as usize <= HELD_ENTRIES
+            && lent.fill <= u32::from(u16::MAX)
+    })
+}
+
+/// Reads where the part of the list held that is shown begins.
+fn read_list_place(rest: &mut &[u32]) -> Option<u32> {
+    u32::take(rest).filter(|&at| at as usize <= HELD_ENTRIES - BLOCK_WORDS)
 }

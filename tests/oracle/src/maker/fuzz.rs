@@ -111,7 +111,7 @@ impl Maker {
     }
 
     /// Makes a valid record of a command with any operands.
-    fn any_operands(&mut self, command: u8, shape: Shape) -> [u8; RECORD_BYTES] {
+    pub fn any_operands(&mut self, command: u8, shape: Shape) -> [u8; RECORD_BYTES] {
         let mut bytes = [command, self.byte(), self.byte(), self.byte(), self.byte()];
         for &place in shape.unused() {
             bytes[place] = 0;

@@ -7,8 +7,8 @@ use crate::runner::{End, HIGHEST_LIMIT};
 use crate::sheet::{LONGEST, PAIR, RECORD_ADDRESSES, RECORD_BYTES};
 
 /// Records whose bytes fit one line, and records in the longest sheet.
-const IN_A_LINE: u32 = 51;
-const MOST: u32 = (LONGEST / RECORD_BYTES) as u32;
+pub const IN_A_LINE: u32 = 51;
+pub const MOST: u32 = (LONGEST / RECORD_BYTES) as u32;
 /// Ticks that are tried out before a limit is chosen.
 const TRIED: u32 = 400;
 /// Lengths around each limit.

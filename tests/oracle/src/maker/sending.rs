@@ -23,9 +23,9 @@ impl Maker {
         &mut records[place]
     }
 
-    /// Appends the lines that are missing for a run or a play.
-    pub fn send(&mut self, given: &Given, out: &mut Vec<Case>) {
-        for at in (0..given.sheet_length as usize).step_by(BLOCK_BYTES) {
+    /// Appends the lines that are missing for a sheet of so many bytes.
+    pub fn send_sheet(&mut self, length: u32, out: &mut Vec<Case>) {
+        for at in (0..length as usize).step_by(BLOCK_BYTES) {
             let block = at..at + BLOCK_BYTES;
             if self.wanted.sheet[block.clone()] != self.held.sheet[block] {
                 let words = self.wanted.sheet_block(at);
@@ -33,6 +33,11 @@ impl Maker {
                 out.push(Case::PutSheet(at as u32, words));
             }
         }
+    }
+
+    /// Appends the lines that are missing for a run or a play.
+    pub fn send(&mut self, given: &Given, out: &mut Vec<Case>) {
+        self.send_sheet(given.sheet_length, out);
         for at in (0..given.answer_count as usize).step_by(BLOCK_WORDS) {
             let block = at..at + BLOCK_WORDS;
             if self.wanted.answers[block.clone()] != self.held.answers[block] {

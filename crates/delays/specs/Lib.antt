@@ -1,0 +1,4 @@
+pub mod Names
+pub mod Passages
+pub mod Rows
+pub mod Claims

@@ -1,0 +1,10 @@
+pub mod Checked
+pub mod Claims
+pub mod Computing
+pub mod Exchanging
+pub mod Listing
+pub mod Orders
+pub mod Placing
+pub mod Registers
+pub mod Rows
+pub mod Trading
