@@ -1,15 +1,16 @@
 -- A sheet and a list that are not refused. Assumes nothing.
 use Prim.Native.Nat.{◌%◌, ◌≤◌, ℕ}
-use borrow.Author.Tests.{ltb-false}
+use borrow.Author.Tests.{le-ltb, ltb-false}
 use lib.Dec.{eqb, ltb}
 use lib.ListN.{length}
 use mathlib.Core.List.{List}
-use mathlib.Core.Path.{◌≡◌}
+use mathlib.Core.Path.{◌≡◌, refl}
 use native.Mathlib.Omega.{arith}
 use Rattle.isa.proofs.Bools.{split}
 use Rattle.sheet.proofs.Limit.{by_check}
 use Rattle.sheet.specs.Sheet.{bad_length, max_length, sheet_check}
 use Rattle.std.specs.Prelude.{Ok}
+use Rattle.trades.specs.Claims.{Enough}
 use Rattle.trades.specs.Trades.{pairs, places_check}
 
 -- the sheet is not refused, and the list has an entry for each pair
@@ -28,7 +29,11 @@ short l e = split (ltb max_length (length l))
     (λ t. absurd (split (eqb (length l % 5) 0) (λ u. let z = rw (t, u) at e in cc) (λ u. let z = rw (t, u) at e in cc)))
     (λ t. ltb-false max_length (length l) t)
 
--- so at most 4,095 pairs
-pub few : (l : List ℕ) (n : ℕ) → places_check l n ≡ Ok tt → pairs l ≤ 4095
+-- so at most 4,095 pairs, and as many entries are enough
+pub few : (l : List ℕ) → sheet_check l ≡ Ok tt → pairs l ≤ 4095
 unfolding pairs
-few l n e = let h = short l ((accepted l n e).0) in omega arith
+few l e = let h = short l e in omega arith
+
+pub enough : Enough
+unfolding places_check
+enough l n e h = rw (e, le-ltb n (pairs l) (omega (arith, few l e, h))) refl

@@ -4,7 +4,7 @@ use borrow.Author.Tests.{eqb-false, lt-ltb, ltb-false, ltb-true}
 use lib.Dec.{eqb, ltb}
 use lib.ListN.{drop, get_or, get_or-append, length, length-append, length-drop, take}
 use lib.Seq.{get_or-append-add, get_or-drop, get_or-take, length-take-le}
-use mathlib.Core.Bool.{cond, false}
+use mathlib.Core.Bool.{cond, false, true}
 use mathlib.Core.List.{List, ◌++◌}
 use mathlib.Core.Path.{◌∙◌, ◌≡◌, refl}
 use native.Mathlib.Omega.{arith}
@@ -34,19 +34,6 @@ module _ (l : List ℕ) (k : ℕ) (room : (k + 2) * 5 ≤ length l) where
   unfolding record_bytes
   bytes_length n h = length-take-le 5 (drop (n * 5) l) (omega (arith, length-drop (n * 5) l))
 
-  pub exchanged_length : length (exchanged l k) ≡ length l
-  unfolding exchanged
-  exchanged_length =
-      rw (
-        length-append,
-        length-append,
-        length-append,
-        front_length,
-        bytes_length (k + 1) (omega arith),
-        bytes_length k (omega arith),
-        length-drop,
-      ) (omega arith)
-
   -- its parts up to each of the two records, and up to what is behind both
   one : List ℕ
   one = take (k * 5) l ++ record_bytes l (k + 1)
@@ -69,6 +56,14 @@ module _ (l : List ℕ) (k : ℕ) (room : (k + 2) * 5 ≤ length l) where
 
   behind : List ℕ
   behind = drop ((k + 2) * 5) l
+
+  pub exchanged_length : length (exchanged l k) ≡ length l
+  unfolding exchanged one two
+  exchanged_length = length-append two (drop ((k + 2) * 5) l) ∙ rw (two_length, length-drop) (omega arith)
+
+  -- both records are in either sheet
+  inside : (m : ℕ) → m ≤ k + 1 → ltb (m * 5 + 4) (length l) ≡ true
+  inside m h = lt-ltb (m * 5 + 4) (length l) (omega arith)
 
   in_front : (n : ℕ) → n < k * 5 → get_or (exchanged l k) n 0 ≡ get_or l n 0
   unfolding exchanged one two behind
@@ -100,20 +95,12 @@ module _ (l : List ℕ) (k : ℕ) (room : (k + 2) * 5 ≤ length l) where
   -- its records
   pub first_record : record_at (exchanged l k) k ≡ record_at l (k + 1)
   first_record = same_record (exchanged l k) l k (k + 1)
-      (rw (
-        exchanged_length,
-        lt-ltb (k * 5 + 4) (length l) (omega arith),
-        lt-ltb ((k + 1) * 5 + 4) (length l) (omega arith),
-      ) refl)
+      (rw (exchanged_length, inside k (omega arith), inside (k + 1) (omega arith)) refl)
       in_first
 
   pub second_record : record_at (exchanged l k) (k + 1) ≡ record_at l k
   second_record = same_record (exchanged l k) l (k + 1) k
-      (rw (
-        exchanged_length,
-        lt-ltb (k * 5 + 4) (length l) (omega arith),
-        lt-ltb ((k + 1) * 5 + 4) (length l) (omega arith),
-      ) refl)
+      (rw (exchanged_length, inside k (omega arith), inside (k + 1) (omega arith)) refl)
       in_second
 
   pub other_record : (m : ℕ) → eqb m k ≡ false → eqb m (k + 1) ≡ false

@@ -1,12 +1,12 @@
 -- Read this first: what is claimed of the places that are listed. Here: Trades (which places, and the list), Rows.
 -- Elsewhere: isa has the one-at-a-time machine and the operands, sheet the records and their check.
-use Rattle.std.specs.Prelude.{◌*◌, ◌+◌, suc, ℕ, ◌==◌, drop, nat_le, nat_lt, take, Bool, ◌&&◌, ◌||◌, false, true, List}
-use Rattle.std.specs.Prelude.{[], ◌++◌, ◌∷◌, ◌≡◌, Ok}
+use Rattle.std.specs.Prelude.{◌*◌, ◌+◌, ◌≤◌, suc, ℕ, ◌==◌, drop, nat_le, nat_lt, take, Bool, ◌&&◌, ◌||◌, false, true}
+use Rattle.std.specs.Prelude.{List, [], ◌++◌, ◌∷◌, ◌≡◌, Ok}
 use Rattle.isa.specs.Machine.{Arch, Program, machine, program_of}
 use Rattle.sheet.specs.Sheet.{sheet_check, sheet_source}
 use Rattle.trades.specs.Names.{Normal, Start}
 use Rattle.trades.specs.Rows.{Rows}
-use Rattle.trades.specs.Trades.{pairs, places, trades_at}
+use Rattle.trades.specs.Trades.{pairs, places, places_check, trades_at}
 
 -- a number stands in a list
 unfoldable pub is_in : ℕ → List ℕ → Bool
@@ -24,6 +24,10 @@ Listed = (l : List ℕ) (k : ℕ) → is_in k (places l) ≡ (nat_lt k (pairs l)
 
 abbrev pub Rising : Type 0
 Rising = (l : List ℕ) → rises_from 0 (places l) ≡ true
+
+-- A list of 4,095 entries is enough for every sheet that is not refused.
+abbrev pub Enough : Type 0
+Enough = (l : List ℕ) (n : ℕ) → sheet_check l ≡ Ok tt → 4095 ≤ n → places_check l n ≡ Ok tt
 
 -- the five bytes of record k
 unfoldable pub record_bytes : List ℕ → ℕ → List ℕ
@@ -55,5 +59,6 @@ Traded = (l : List ℕ) (k : ℕ) → sheet_check l ≡ Ok tt → is_in k (place
 pub record Claims : Type 0 where
   pub listed : Listed
   pub rising : Rising
+  pub enough : Enough
   pub traded : Traded
   pub rows : Rows

@@ -13,7 +13,7 @@ three c d a b = c ∷ d ∷ a ∷ b ∷ 0x00 ∷ []
 unfoldable pub add : ℕ → ℕ → ℕ → List ℕ
 add d a b = three 0x10 d a b
 
--- a register and four bytes: LDIL and LDIH have 7 in them, ADDI and LD the base R2 and 7
+-- a register: LDIL and LDIH of 7, ADDI and LD with R2 and 7
 unfoldable pub ldil : ℕ → List ℕ
 ldil d = 0x30 ∷ d ∷ 0x00 ∷ 0x00 ∷ 0x07 ∷ []
 
@@ -42,31 +42,31 @@ unfoldable pub row : List ℕ → Result ℕ Refusal × List ℕ
 row sheet = lent sheet (9 ∷ 9 ∷ [])
 
 -- a sheet whose only pair is listed, or is not
-abbrev pub Alike : List ℕ → Type 0
-Alike sheet = row sheet ≡ (Ok 1, 0 ∷ 9 ∷ [])
+abbrev pub MayTrade : List ℕ → Type 0
+MayTrade sheet = row sheet ≡ (Ok 1, 0 ∷ 9 ∷ [])
 
-abbrev pub Fixed : List ℕ → Type 0
-Fixed sheet = row sheet ≡ (Ok 0, 9 ∷ 9 ∷ [])
+abbrev pub MayNot : List ℕ → Type 0
+MayNot sheet = row sheet ≡ (Ok 0, 9 ∷ 9 ∷ [])
 
 -- the table
 pub record Rows : Type 0 where
-  pub nops : Alike (nop ++ nop)
-  pub others : Alike (add 1 2 3 ++ add 4 5 6)
-  pub read_behind : Fixed (add 1 2 3 ++ add 4 1 6)
-  pub read_behind_too : Fixed (add 1 2 3 ++ add 4 5 1)
-  pub written_behind : Fixed (add 1 4 5 ++ add 4 2 3)
-  pub written_behind_too : Fixed (add 1 4 5 ++ add 5 2 3)
-  pub both_write : Fixed (add 1 2 3 ++ add 1 4 5)
-  pub into_zero : Fixed (add 0 1 2 ++ add 1 0 3)
-  pub both_into_zero : Alike (add 0 1 2 ++ add 0 3 4)
-  pub halves : Fixed (ldil 1 ++ ldih 1)
-  pub other_halves : Alike (ldil 1 ++ ldih 2)
-  pub half_read : Fixed (ldil 1 ++ add 3 1 2)
-  pub slow : Alike (three 0x1B 1 2 3 ++ three 0x1D 4 5 6)
-  pub addi_reads : Fixed (addi 1 ++ add 2 3 4)
-  pub addi_beside : Alike (addi 1 ++ addi 3)
-  pub load_first : Fixed (ld 1 ++ nop)
-  pub load_behind : Fixed (nop ++ ld 1)
+  pub nops : MayTrade (nop ++ nop)
+  pub others : MayTrade (add 1 2 3 ++ add 4 5 6)
+  pub read_behind : MayNot (add 1 2 3 ++ add 4 1 6)
+  pub read_behind_too : MayNot (add 1 2 3 ++ add 4 5 1)
+  pub written_behind : MayNot (add 1 4 5 ++ add 4 2 3)
+  pub written_behind_too : MayNot (add 1 4 5 ++ add 5 2 3)
+  pub both_write : MayNot (add 1 2 3 ++ add 1 4 5)
+  pub into_zero : MayNot (add 0 1 2 ++ add 1 0 3)
+  pub both_into_zero : MayTrade (add 0 1 2 ++ add 0 3 4)
+  pub halves : MayNot (ldil 1 ++ ldih 1)
+  pub other_halves : MayTrade (ldil 1 ++ ldih 2)
+  pub half_read : MayNot (ldil 1 ++ add 3 1 2)
+  pub slow : MayTrade (three 0x1B 1 2 3 ++ three 0x1D 4 5 6)
+  pub addi_reads : MayNot (addi 1 ++ add 2 3 4)
+  pub addi_beside : MayTrade (addi 1 ++ addi 3)
+  pub load_first : MayNot (ld 1 ++ nop)
+  pub load_behind : MayNot (nop ++ ld 1)
   pub all_three : row (nop ++ nop ++ nop) ≡ (Ok 2, 0 ∷ 1 ∷ [])
   pub second_only : row (ld 1 ++ nop ++ nop) ≡ (Ok 1, 1 ∷ 9 ∷ [])
   -- no pair, and so no entry is needed

@@ -18,7 +18,8 @@ returns-in_err-check_places-clause-list c = rw (sym c.check_places.ensures ∙ c
 pub overflow_cast-pairs : goal.overflow_cast-pairs
 overflow_cast-pairs c =
     rw c.pairs.ensures
-    (omega (arith, few c.args.sheet.now _ (sym c.check_places.ensures ∙ c.in_ok-check_places.was)))
+    (let a = accepted c.args.sheet.now _ (sym c.check_places.ensures ∙ c.in_ok-check_places.was) in
+    omega (arith, few c.args.sheet.now a.0))
 
 pub put-requires : goal.put-requires
 put-requires c =
