@@ -9,17 +9,17 @@ use Rattle.isa.specs.Effect.{effect_n, effect_of, gives, goes_on, inquires, mark
 use Rattle.isa.specs.Effect.{privileged, raises, written}
 use Rattle.isa.specs.Inquiries.{fill, look_up, mfsr_with}
 use Rattle.isa.specs.Operands.{operands_n, operands_of, plain, writes}
-use Rattle.isa.specs.Waits.{back_to, is_div, is_mul, predict, predict_by, slow_of, wait_of}
+use Rattle.isa.specs.Waits.{back_to, is_div, is_mul, predict, predict_by, slow_of}
 use Rattle.latch.specs.Bounds.{bad_width}
 use Rattle.word.specs.Words.{bit}
-use Rattle.accuracy.proofs.Instructions.{Even, even, kind, odd_bounds, odd_latency, odd_load, odd_mode, odd_store}
-use Rattle.accuracy.proofs.Instructions.{odd_swap, odd_wait}
+use Rattle.accuracy.proofs.Instructions.{Even, even, kind, odd_bounds, odd_load, odd_mode, odd_store, odd_swap}
+use Rattle.accuracy.proofs.Instructions.{odd_wait}
 use Rattle.accuracy.specs.Names.{DecNormal, Decoded, Effect, Mfsr, Mode}
 
 -- MFSR, whatever is said
 mfsr_even : (rd sr p : ℕ) (m : Mode) (c : Option (Option ℕ)) → Even (DecNormal (Mfsr rd sr)) p m (mfsr_with c)
-unfolding mfsr_with odd_load odd_store odd_wait odd_latency odd_swap odd_mode odd_bounds kind operands_of operands_n
-    writes plain is_mul is_div slow_of wait_of bit predict predict_by back_to bad_width gives goes_on written raises
+unfolding mfsr_with odd_load odd_store odd_wait odd_swap odd_mode odd_bounds kind operands_of operands_n
+    writes plain is_mul is_div slow_of bit predict predict_by back_to bad_width gives goes_on written raises
     marked no_result no_access no_marks
 mfsr_even rd sr p m None =
     record { load = refl; store = refl; wait = refl; latency = refl; swap = refl; mode = refl; bounds = refl }

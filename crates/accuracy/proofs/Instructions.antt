@@ -9,12 +9,13 @@ use native.Mathlib.Omega.{arith}
 use Rattle.std.specs.Prelude.{None, Option, Some, is_some, unwrap_or}
 use Rattle.std.proofs.lemmas.Bool.{and_parts, false_from_ne_true, not-false, or_parts}
 use Rattle.isa.proofs.Bools.{and_r, split}
+use Rattle.isa.proofs.Latency.{latency_is}
 use Rattle.isa.specs.Effect.{branches, effect_n, effect_of, effect_s, fall, gives, goes_by, goes_on, identifies}
 use Rattle.isa.specs.Effect.{inquires, jumps, links, marked, no_access, no_marks, no_result, nothing, privileged}
 use Rattle.isa.specs.Effect.{raises, reaches, resumes, sets, stops, written}
 use Rattle.isa.specs.Machine.{dest_of}
-use Rattle.isa.specs.Operands.{bare, binary, branching, gpr, loading, ok_dest, ok_operands, operands_n, operands_of}
-use Rattle.isa.specs.Operands.{operands_s, plain, reads, storing, unary, writes}
+use Rattle.isa.specs.Operands.{bare, binary, branching, div_latency, gpr, loading, mul_latency, ok_dest, ok_operands}
+use Rattle.isa.specs.Operands.{operands_n, operands_of, operands_s, plain, reads, storing, unary, writes}
 use Rattle.isa.specs.Redirects.{mode_or, target_or}
 use Rattle.isa.specs.Waits.{back_to, is_div, is_mul, is_negative, predict, predict_by, slow_of, wait_of, waits}
 use Rattle.latch.specs.Bounds.{bad_width}
@@ -66,17 +67,13 @@ unfoldable pub odd_bounds : Operands → Effect → Bool
 odd_bounds o e = bad_width e.access.mem_size ||
     (ltb 2 o.n_srcs || (not (ltb 0 o.n_srcs) && not (eqb o.src_a 0)))
 
--- a wait that is not a multiply's or divide's, by the instructions that these are
-unfoldable pub odd_latency : Bool → Bool → Operands → Bool
-odd_latency u v o = not (eqb (wait_of o.latency) (2 * bit u + 15 * bit v))
-
 unfoldable pub odd : Mode → Bool → Bool → Operands → Effect → Option Place → Bool
 odd k u v o e g =
     odd_load u v o e g
     || (odd_store o e
     || (odd_wait u v o e g
-    || (odd_latency u v o || (odd_swap e.branch_new_mode g e.redirect
-    || (odd_mode k e.branch_new_mode e.redirect || odd_bounds o e)))))
+    || (odd_swap e.branch_new_mode g e.redirect
+    || (odd_mode k e.branch_new_mode e.redirect || odd_bounds o e))))
 
 unfoldable pub kind : Decoded → Mode
 kind (DecNormal i) = Normal
@@ -86,7 +83,7 @@ not_odd_n : (u : Bool) (i : Instruction) (p n : ℕ) (m : Mode) (x y : ℕ)
     → odd Normal (is_mul (DecNormal i)) (is_div (DecNormal i)) (operands_n i) (effect_n u i n x y)
     (predict (DecNormal i) p m)
     ≡ false
-unfolding odd odd_load odd_store odd_wait odd_swap odd_latency odd_mode odd_bounds wait_of bad_width same_mode
+unfolding odd odd_load odd_store odd_wait odd_swap odd_mode odd_bounds bad_width same_mode
     operands_of operands_n effect_n is_mul is_div slow_of bit predict predict_by back_to bare plain writes unary
     binary reads loading storing branching nothing written no_result no_access no_marks goes_on goes_by marked stops
     resumes identifies gives reaches branches jumps links raises sets inquires privileged
@@ -142,7 +139,7 @@ not_odd_s : (i : ShortInstruction) (p n : ℕ) (m : Mode) (x y : ℕ)
     → odd Short (is_mul (DecShort i)) (is_div (DecShort i)) (operands_s i) (effect_s i n x y) (predict (DecShort i) p m)
     ≡
     false
-unfolding odd odd_load odd_store odd_wait odd_swap odd_latency odd_mode odd_bounds wait_of bad_width same_mode
+unfolding odd odd_load odd_store odd_wait odd_swap odd_mode odd_bounds bad_width same_mode
     operands_of operands_s effect_s is_mul is_div bit predict predict_by back_to bare plain writes unary binary reads
     loading storing branching nothing written no_result no_access no_marks goes_on goes_by marked stops resumes
     identifies gives reaches branches jumps links raises sets inquires privileged
@@ -170,7 +167,7 @@ pub record Even (i : Decoded) (p : ℕ) (m : Mode) (e : Effect) : Type 0 where
   pub load : odd_load (is_mul i) (is_div i) (operands_of i) e (predict i p m) ≡ false
   pub store : odd_store (operands_of i) e ≡ false
   pub wait : odd_wait (is_mul i) (is_div i) (operands_of i) e (predict i p m) ≡ false
-  pub latency : odd_latency (is_mul i) (is_div i) (operands_of i) ≡ false
+  pub latency : (operands_of i).latency ≡ cond (is_mul i) (Some mul_latency) (cond (is_div i) (Some div_latency) None)
   pub swap : odd_swap e.branch_new_mode (predict i p m) e.redirect ≡ false
   pub mode : odd_mode (kind i) e.branch_new_mode e.redirect ≡ false
   pub bounds : odd_bounds (operands_of i) e ≡ false
@@ -184,10 +181,17 @@ even u i p m x y =
     let r₀ = or_parts (odd_load (is_mul i) (is_div i) o e g) _ (not_odd u i p m x y) in
     let r₁ = or_parts (odd_store o e) _ r₀.1 in
     let r₂ = or_parts (odd_wait (is_mul i) (is_div i) o e g) _ r₁.1 in
-    let r₃ = or_parts (odd_latency (is_mul i) (is_div i) o) _ r₂.1 in
-    let r₄ = or_parts (odd_swap e.branch_new_mode g e.redirect) _ r₃.1 in
-    let r₅ = or_parts (odd_mode (kind i) e.branch_new_mode e.redirect) _ r₄.1 in
-    record { load = r₀.0; store = r₁.0; wait = r₂.0; latency = r₃.0; swap = r₄.0; mode = r₅.0; bounds = r₅.1 }
+    let r₃ = or_parts (odd_swap e.branch_new_mode g e.redirect) _ r₂.1 in
+    let r₄ = or_parts (odd_mode (kind i) e.branch_new_mode e.redirect) _ r₃.1 in
+    record {
+      load = r₀.0;
+      store = r₁.0;
+      wait = r₂.0;
+      latency = latency_is i;
+      swap = r₃.0;
+      mode = r₄.0;
+      bounds = r₄.1;
+    }
 
 -- a short instruction's registers are below 32
 pub gpr_ok : (r : ℕ) → ltb (gpr r) 32 ≡ true
@@ -377,9 +381,17 @@ pub slow_one : (i : Decoded) → (is_mul i && is_div i) ≡ false
 slow_one i = (or_parts (is_mul i && is_div i) _ (slow_rest i)).0
 
 -- the waits: 2 for a multiply, 15 for a divide
+waits_by : (u v : Bool) → (u && v) ≡ false
+    → wait_of (cond u (Some mul_latency) (cond v (Some div_latency) None)) ≡ 2 * bit u + 15 * bit v
+unfolding wait_of bit
+waits_by true true h = cc
+waits_by true false h = refl
+waits_by false true h = refl
+waits_by false false h = refl
+
 pub waits_is : (i : Decoded) → waits i ≡ 2 * bit (is_mul i) + 15 * bit (is_div i)
-unfolding waits odd_latency
-waits_is i = eqb-true _ _ (not-false _ (even false i 0 Normal 0 0).latency)
+unfolding waits
+waits_is i = rw (even false i 0 Normal 0 0).latency (waits_by (is_mul i) (is_div i) (slow_one i))
 
 -- what a load does and does not
 pub record Plain (i : Decoded) (p : ℕ) (m : Mode) (e : Effect) : Type 0 where

@@ -1,37 +1,41 @@
-// A case: its kind, and the numbers of what it is given.
-use crate::failure::Failure;
+// A case: its kind, the numbers of what it is given, and the line that answers it.
 use crate::kind::Kind;
 use crate::line::{Line, ToNumbers};
 use crate::numbers::{FromNumbers, Malformed, Numbers};
-use std::alloc::Global;
 
 #[derive(Drop)]
 pub struct Case<'a> {
     pub kind: Kind,
     numbers: Numbers<'a>,
-    alloc: Global,
+    line: &'a mut Line,
 }
 
 impl<'a> Case<'a> {
-    pub fn new(alloc: Global, line: &'a [u8]) -> Result<Case<'a>, Malformed> {
-        let mut numbers = Numbers::new(line)?;
+    pub fn new(text: &'a [u8], line: &'a mut Line) -> Result<Case<'a>, Malformed> {
+        let mut numbers = Numbers::new(text)?;
         Ok(Case {
             kind: Kind::try_from(numbers.number()?)?,
             numbers,
-            alloc,
+            line,
         })
     }
 
     // What it is given.
-    pub fn input<T: FromNumbers>(self) -> Result<T, Malformed> {
+    pub fn input<T: FromNumbers>(&self) -> Result<T, Malformed> {
         self.numbers.whole()
     }
 
-    // The line of what a function makes of what it is given.
+    // Answers it with the line of a value.
+    pub fn reply<O: ToNumbers>(self, value: O) -> Result<bool, Malformed> {
+        self.line.fill(value);
+        Ok(true)
+    }
+
+    // Answers it with what a function makes of what it is given.
     pub fn answer<I: FromNumbers, O: ToNumbers, F: FnOnce(I) -> O>(
         self,
         function: F,
-    ) -> Result<Option<Line>, Failure>
+    ) -> Result<bool, Malformed>
         requires { F.IsAlwaysCallable function }
     {
         self.try_answer(|input| Ok(function(input)))
@@ -41,11 +45,10 @@ impl<'a> Case<'a> {
     pub fn try_answer<I: FromNumbers, O: ToNumbers, F: FnOnce(I) -> Result<O, Malformed>>(
         self,
         function: F,
-    ) -> Result<Option<Line>, Failure>
+    ) -> Result<bool, Malformed>
         requires { F.IsAlwaysCallable function }
     {
-        let alloc = self.alloc;
-        let input = self.input()?;
-        Ok(Some(Line::of(alloc, function(input)?)?))
+        let value = function(self.input()?)?;
+        self.reply(value)
     }
 }

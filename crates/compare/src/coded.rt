@@ -5,7 +5,6 @@ use crate::fields::Field;
 use crate::line::{Line, ToNumbers};
 use crate::numbers::{FromNumbers, Malformed, Numbers};
 use isa::{Instruction, ShortInstruction};
-use std::alloc::AllocError;
 
 // A field is 0 where there are fewer.
 #[derive(Clone, Copy)]
@@ -24,9 +23,9 @@ impl FromNumbers for Coded {
 }
 
 impl ToNumbers for Coded {
-    fn to_numbers(self, line: &mut Line) -> Result<(), AllocError> {
+    fn to_numbers(self, line: &mut Line, at: usize) -> usize {
         let fields = self.fields;
-        line.write((self.variant, fields))
+        line.write(at, (self.variant, fields))
     }
 }
 

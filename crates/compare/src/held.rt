@@ -2,7 +2,6 @@
 // registers, the log and the list of places.
 use crate::case::Case;
 use crate::cases::{arithmetic, asked, code, latency, retired, short_operands};
-use crate::failure::Failure;
 use crate::inputs::{Halfword, InBounds};
 use crate::kind::Kind;
 use crate::line::{Line, ToNumbers};
@@ -19,7 +18,6 @@ use std::convert::AsSlice;
 
 #[derive(Drop)]
 pub struct Held {
-    alloc: Global,
     state: PipelineCpu,
     sheet: Vec<u8>,
     answers: Vec<u32>,
@@ -37,21 +35,20 @@ pub fn first<T>(held: &[T], count: u32) -> Result<&[T], Malformed> {
 fn put<T: Copy, V: FromNumbers + AsSlice<T>>(
     held: &mut [T],
     case: Case<'_>,
-) -> Result<Option<Line>, Failure> {
+) -> Result<bool, Malformed> {
     let (at, values): (u32, V) = case.input()?;
     if let Some(places) = held.get_mut(at as usize..) {
         let values = values.as_slice();
         let count = places.len().min(values.len());
         places[..count].copy_from_slice(&values[..count]);
     }
-    Ok(None)
+    Ok(false)
 }
 
 impl Held {
     // A start with all zeros, nothing but zeros else, and a log of no bytes.
     pub fn new(alloc: Global) -> Result<Held, AllocError> {
         Ok(Held {
-            alloc,
             state: PipelineCpu::start(Start::zero()),
             sheet: vec![in alloc; 0; 20736]?,
             answers: vec![in alloc; 0; 4096]?,
@@ -61,17 +58,14 @@ impl Held {
         })
     }
 
-    // The line that answers a line of text, empty where that is no case; none where the case only has something held.
-    pub fn reply(&mut self, text: &[u8]) -> Result<Option<Line>, AllocError> {
-        match self.answer(text) {
-            Ok(line) => Ok(line),
-            Err(Failure::Malformed) => Ok(Some(Line::new(self.alloc))),
-            Err(Failure::OutOfMemory(error)) => Err(error),
-        }
+    // Writes what answers a line of text to an empty line, nothing where that is no case, and says whether there is an
+    // answer: none where the case only has something held.
+    pub fn reply(&mut self, text: &[u8], line: &mut Line) -> bool {
+        self.answer(text, line).unwrap_or(true)
     }
 
-    fn answer(&mut self, text: &[u8]) -> Result<Option<Line>, Failure> {
-        let case = Case::new(self.alloc, text)?;
+    fn answer(&mut self, text: &[u8], line: &mut Line) -> Result<bool, Malformed> {
+        let case = Case::new(text, line)?;
         match case.kind {
             Kind::Arithmetic => case.answer(arithmetic),
             Kind::Halfword => case.answer(|Halfword(half)| ShortInstruction::decode_short(half)),
@@ -109,40 +103,40 @@ impl Held {
         }
     }
 
-    fn start(&mut self, case: Case<'_>) -> Result<Option<Line>, Failure> {
+    fn start(&mut self, case: Case<'_>) -> Result<bool, Malformed> {
         self.state = PipelineCpu::start(case.input()?);
-        Ok(None)
+        Ok(false)
     }
 
     // One tick of the state held: its code, and what asking named before it.
-    fn tick(&mut self, case: Case<'_>) -> Result<Option<Line>, Failure> {
+    fn tick(&mut self, case: Case<'_>) -> Result<bool, Malformed> {
         let wanted = self.state.ask().unwrap_or_default();
         let ticked = self.state.tick(case.input()?);
         self.state = ticked.state;
-        Ok(Some(Line::of(self.alloc, (code(ticked.outcome), wanted))?))
+        case.reply((code(ticked.outcome), wanted))
     }
 
-    fn begin_log(&mut self, case: Case<'_>) -> Result<Option<Line>, Failure> {
+    fn begin_log(&mut self, case: Case<'_>) -> Result<bool, Malformed> {
         self.log.begin(case.input()?)?;
-        Ok(None)
+        Ok(false)
     }
 
     // One tick that keeps the log held: its code, and the first free place then.
-    fn tick_logged(&mut self, case: Case<'_>) -> Result<Option<Line>, Failure> {
+    fn tick_logged(&mut self, case: Case<'_>) -> Result<bool, Malformed> {
         let ticked = self.log.tick(self.state, case.input()?)?;
         self.state = ticked.state;
-        Ok(Some(Line::of(self.alloc, (code(ticked.outcome), self.log.free))?))
+        case.reply((code(ticked.outcome), self.log.free))
     }
 
     // Where neighbours of the sheet held may trade places: the code and how many places the list held has now.
-    fn trades(&mut self, case: Case<'_>) -> Result<Option<Line>, Failure> {
+    fn trades(&mut self, case: Case<'_>) -> Result<bool, Malformed> {
         let (bytes, lent): (u32, (u32, u16)) = case.input()?;
         let sheet = first(self.sheet.as_slice(), bytes)?;
         let listed = self.places.list(sheet, lent)?;
-        Ok(Some(Line::of(self.alloc, listed)?))
+        case.reply(listed)
     }
 
-    fn show(&self, case: Case<'_>) -> Result<Option<Line>, Failure> {
+    fn show(&self, case: Case<'_>) -> Result<bool, Malformed> {
         let state = self.state;
         case.answer(|()| state)
     }
@@ -166,13 +160,13 @@ impl Held {
         &self,
         case: Case<'_>,
         run: F,
-    ) -> Result<Option<Line>, Failure>
+    ) -> Result<bool, Malformed>
     where
         F: FnOnce(S, Inputs<'_>) -> R,
         requires { F.IsAlwaysCallable run }
     {
         let (start, limit, lengths): (S, u32, [u32; 3]) = case.input()?;
         let report = run(start, self.inputs(limit, lengths)?);
-        Ok(Some(Line::of(self.alloc, report)?))
+        case.reply(report)
     }
 }

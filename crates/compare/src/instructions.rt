@@ -4,7 +4,6 @@ use crate::conversions::low_half;
 use crate::line::{Line, ToNumbers};
 use crate::numbers::{FromNumbers, Malformed, Numbers};
 use isa::{Decoded, Instruction, RawInstr, ShortInstruction};
-use std::alloc::AllocError;
 
 // NOP where the numbers are no instruction's.
 fn normal(coded: Coded) -> Instruction {
@@ -27,10 +26,10 @@ impl FromNumbers for RawInstr {
 }
 
 impl ToNumbers for RawInstr {
-    fn to_numbers(self, line: &mut Line) -> Result<(), AllocError> {
+    fn to_numbers(self, line: &mut Line, at: usize) -> usize {
         match self {
-            RawInstr::Normal(instruction) => line.write((false, Coded::from(instruction))),
-            RawInstr::Short(half) => line.write((true, half, [0_u32; 3])),
+            RawInstr::Normal(instruction) => line.write(at, (false, Coded::from(instruction))),
+            RawInstr::Short(half) => line.write(at, (true, half, [0_u32; 3])),
         }
     }
 }
@@ -61,16 +60,16 @@ impl FromNumbers for Decoded {
 }
 
 impl ToNumbers for Decoded {
-    fn to_numbers(self, line: &mut Line) -> Result<(), AllocError> {
+    fn to_numbers(self, line: &mut Line, at: usize) -> usize {
         match self {
-            Decoded::Normal(instruction) => line.write((false, Coded::from(instruction))),
-            Decoded::Short(instruction) => line.write((true, Coded::from(instruction))),
+            Decoded::Normal(instruction) => line.write(at, (false, Coded::from(instruction))),
+            Decoded::Short(instruction) => line.write(at, (true, Coded::from(instruction))),
         }
     }
 }
 
 impl ToNumbers for ShortInstruction {
-    fn to_numbers(self, line: &mut Line) -> Result<(), AllocError> {
-        line.write(Coded::from(self))
+    fn to_numbers(self, line: &mut Line, at: usize) -> usize {
+        line.write(at, Coded::from(self))
     }
 }

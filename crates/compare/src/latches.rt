@@ -2,7 +2,6 @@
 use crate::line::{Line, ToNumbers};
 use crate::numbers::{FromNumbers, Malformed, Numbers};
 use latch::{ExMem, IdEx, IfId, MemWb};
-use std::alloc::AllocError;
 
 impl FromNumbers for IfId {
     fn from_numbers(numbers: &mut Numbers<'_>) -> Result<IfId, Malformed> {
@@ -16,9 +15,9 @@ impl FromNumbers for IfId {
 }
 
 impl ToNumbers for IfId {
-    fn to_numbers(self, line: &mut Line) -> Result<(), AllocError> {
-        line.write((self.valid, self.pc, self.mode))?;
-        line.write(self.raw)
+    fn to_numbers(self, line: &mut Line, at: usize) -> usize {
+        let at = line.write(at, (self.valid, self.pc, self.mode));
+        line.write(at, self.raw)
     }
 }
 
@@ -44,12 +43,12 @@ impl FromNumbers for IdEx {
 }
 
 impl ToNumbers for IdEx {
-    fn to_numbers(self, line: &mut Line) -> Result<(), AllocError> {
-        line.write((self.valid, self.pc, self.mode))?;
-        line.write((self.decoded, self.predicted_taken))?;
-        line.write((self.src_a, self.src_b, self.n_srcs))?;
-        line.write((self.dest, self.op_a, self.op_b))?;
-        line.write((self.is_load, self.is_store, self.exception))
+    fn to_numbers(self, line: &mut Line, at: usize) -> usize {
+        let at = line.write(at, (self.valid, self.pc, self.mode));
+        let at = line.write(at, (self.decoded, self.predicted_taken));
+        let at = line.write(at, (self.src_a, self.src_b, self.n_srcs));
+        let at = line.write(at, (self.dest, self.op_a, self.op_b));
+        line.write(at, (self.is_load, self.is_store, self.exception))
     }
 }
 
@@ -82,15 +81,18 @@ impl FromNumbers for ExMem {
 }
 
 impl ToNumbers for ExMem {
-    fn to_numbers(self, line: &mut Line) -> Result<(), AllocError> {
-        line.write((self.valid, self.pc, self.mode))?;
-        line.write((self.decoded, self.dest))?;
-        line.write((self.writeback, self.is_load, self.is_store))?;
-        line.write((self.alu_result, self.store_value, self.mem_addr))?;
-        line.write((self.mem_size, self.is_mem_read))?;
-        line.write((self.branch_taken, self.branch_target, self.branch_new_mode))?;
-        line.write((self.halt, self.iret, self.cpuid))?;
-        line.write((self.exception, self.mtsr))
+    fn to_numbers(self, line: &mut Line, at: usize) -> usize {
+        let at = line.write(at, (self.valid, self.pc, self.mode));
+        let at = line.write(at, (self.decoded, self.dest));
+        let at = line.write(at, (self.writeback, self.is_load, self.is_store));
+        let at = line.write(at, (self.alu_result, self.store_value, self.mem_addr));
+        let at = line.write(at, (self.mem_size, self.is_mem_read));
+        let at = line.write(
+            at,
+            (self.branch_taken, self.branch_target, self.branch_new_mode),
+        );
+        let at = line.write(at, (self.halt, self.iret, self.cpuid));
+        line.write(at, (self.exception, self.mtsr))
     }
 }
 
@@ -116,11 +118,14 @@ impl FromNumbers for MemWb {
 }
 
 impl ToNumbers for MemWb {
-    fn to_numbers(self, line: &mut Line) -> Result<(), AllocError> {
-        line.write((self.valid, self.pc, self.mode))?;
-        line.write((self.dest, self.writeback, self.value))?;
-        line.write((self.halt, self.iret, self.cpuid))?;
-        line.write((self.branch_taken, self.branch_target, self.branch_new_mode))?;
-        line.write((self.exception, self.mtsr))
+    fn to_numbers(self, line: &mut Line, at: usize) -> usize {
+        let at = line.write(at, (self.valid, self.pc, self.mode));
+        let at = line.write(at, (self.dest, self.writeback, self.value));
+        let at = line.write(at, (self.halt, self.iret, self.cpuid));
+        let at = line.write(
+            at,
+            (self.branch_taken, self.branch_target, self.branch_new_mode),
+        );
+        line.write(at, (self.exception, self.mtsr))
     }
 }

@@ -17,20 +17,26 @@ const FILL: u8 = 0xFF;
 
 // An entry's command, and what it says; zeros for the end.
 impl ToNumbers for Option<Event> {
-    fn to_numbers(self, line: &mut Line) -> Result<(), AllocError> {
-        line.write(match self {
-            None => [0; 4],
-            Some(Event::Retired { pc }) => [0x80, pc, 0, 0],
-            Some(Event::Written { register, word }) => [0x81, u32::from(register), word, 0],
-            Some(Event::Load { addr, width, word }) => [0x82, addr, u32::from(width), word],
-            Some(Event::Store { addr, width, word }) => [0x83, addr, u32::from(width), word],
-        })
+    fn to_numbers(self, line: &mut Line, at: usize) -> usize {
+        line.write(
+            at,
+            match self {
+                None => [0; 4],
+                Some(Event::Retired { pc }) => [0x80, pc, 0, 0],
+                Some(Event::Written { register, word }) => [0x81, u32::from(register), word, 0],
+                Some(Event::Load { addr, width, word }) => [0x82, addr, u32::from(width), word],
+                Some(Event::Store { addr, width, word }) => [0x83, addr, u32::from(width), word],
+            },
+        )
     }
 }
 
 impl ToNumbers for Read {
-    fn to_numbers(self, line: &mut Line) -> Result<(), AllocError> {
-        line.write((code(self.found), self.found.unwrap_or_default(), self.at))
+    fn to_numbers(self, line: &mut Line, at: usize) -> usize {
+        line.write(
+            at,
+            (code(self.found), self.found.unwrap_or_default(), self.at),
+        )
     }
 }
 

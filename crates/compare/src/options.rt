@@ -5,7 +5,6 @@ use crate::line::{Line, ToNumbers};
 use crate::numbers::{FromNumbers, Malformed, Numbers};
 use isa::{Exception, Mode, Mtsr, Place};
 use origin::Origins;
-use std::alloc::AllocError;
 
 // The mode of a number. Lines have 0 and 1.
 fn mode(number: u32) -> Mode {
@@ -22,8 +21,8 @@ impl FromNumbers for Mode {
 }
 
 impl ToNumbers for Mode {
-    fn to_numbers(self, line: &mut Line) -> Result<(), AllocError> {
-        line.push(self as u32)
+    fn to_numbers(self, line: &mut Line, at: usize) -> usize {
+        line.push(at, self as u32)
     }
 }
 
@@ -36,8 +35,8 @@ impl FromNumbers for Option<Mode> {
 }
 
 impl ToNumbers for Option<Mode> {
-    fn to_numbers(self, line: &mut Line) -> Result<(), AllocError> {
-        line.push(self.map_or(0, |mode| mode as u32 + 1))
+    fn to_numbers(self, line: &mut Line, at: usize) -> usize {
+        line.push(at, self.map_or(0, |mode| mode as u32 + 1))
     }
 }
 
@@ -49,8 +48,8 @@ impl FromNumbers for Option<u8> {
 }
 
 impl ToNumbers for Option<u8> {
-    fn to_numbers(self, line: &mut Line) -> Result<(), AllocError> {
-        line.push(self.map_or(0, |register| u32::from(register) + 1))
+    fn to_numbers(self, line: &mut Line, at: usize) -> usize {
+        line.push(at, self.map_or(0, |register| u32::from(register) + 1))
     }
 }
 
@@ -66,13 +65,16 @@ impl FromNumbers for Option<Exception> {
 }
 
 impl ToNumbers for Option<Exception> {
-    fn to_numbers(self, line: &mut Line) -> Result<(), AllocError> {
-        line.push(match self {
-            None => 0,
-            Some(Exception::PrivilegedInstruction) => 1,
-            Some(Exception::IllegalInstruction) => 2,
-            Some(Exception::Syscall(imm)) => u32::from(imm) + 3,
-        })
+    fn to_numbers(self, line: &mut Line, at: usize) -> usize {
+        line.push(
+            at,
+            match self {
+                None => 0,
+                Some(Exception::PrivilegedInstruction) => 1,
+                Some(Exception::IllegalInstruction) => 2,
+                Some(Exception::Syscall(imm)) => u32::from(imm) + 3,
+            },
+        )
     }
 }
 
@@ -96,8 +98,8 @@ impl FromNumbers for Option<Mtsr> {
 }
 
 impl ToNumbers for Option<Mtsr> {
-    fn to_numbers(self, line: &mut Line) -> Result<(), AllocError> {
-        line.write(flagged(self.map(|mtsr| (mtsr.sr, mtsr.value))))
+    fn to_numbers(self, line: &mut Line, at: usize) -> usize {
+        line.write(at, flagged(self.map(|mtsr| (mtsr.sr, mtsr.value))))
     }
 }
 
@@ -123,23 +125,23 @@ impl FromNumbers for Option<Option<u32>> {
 
 // A flag, the address and its mode.
 impl ToNumbers for Option<Place> {
-    fn to_numbers(self, line: &mut Line) -> Result<(), AllocError> {
-        line.write(flagged(self.map(|place| (place.pc, place.mode as u32))))
+    fn to_numbers(self, line: &mut Line, at: usize) -> usize {
+        line.write(at, flagged(self.map(|place| (place.pc, place.mode as u32))))
     }
 }
 
 // A special register: a flag and its number.
 impl ToNumbers for Option<u16> {
-    fn to_numbers(self, line: &mut Line) -> Result<(), AllocError> {
-        line.write(flagged(self))
+    fn to_numbers(self, line: &mut Line, at: usize) -> usize {
+        line.write(at, flagged(self))
     }
 }
 
 impl ToNumbers for Option<Origins> {
-    fn to_numbers(self, line: &mut Line) -> Result<(), AllocError> {
+    fn to_numbers(self, line: &mut Line, at: usize) -> usize {
         match self {
-            None => line.write([0_u32; 2]),
-            Some(origins) => line.write(origins),
+            None => line.write(at, [0_u32; 2]),
+            Some(origins) => line.write(at, origins),
         }
     }
 }

@@ -6,30 +6,36 @@ use pipeline::PipelineCpu;
 use player::{Played, PlayerEnd};
 use runs::Ran;
 use sheet::{End, Inputs};
-use std::alloc::AllocError;
 
 // 0 halted, 1 spent, 2 loads, 3 refused with its number.
 impl ToNumbers for End {
-    fn to_numbers(self, line: &mut Line) -> Result<(), AllocError> {
-        line.write(match self {
-            End::Halted => [0, 0],
-            End::Spent => [1, 0],
-            End::Loads => [2, 0],
-            End::Refused(refusal) => [3, refusal.number()],
-        })
+    fn to_numbers(self, line: &mut Line, at: usize) -> usize {
+        line.write(
+            at,
+            match self {
+                End::Halted => [0, 0],
+                End::Spent => [1, 0],
+                End::Loads => [2, 0],
+                End::Refused(refusal) => [3, refusal.number()],
+                End::Numbered(number) => [3, number],
+            },
+        )
     }
 }
 
 // The same, and 4 stopped. The two ends are enums of two crates, and have only these numbers in common.
 impl ToNumbers for PlayerEnd {
-    fn to_numbers(self, line: &mut Line) -> Result<(), AllocError> {
-        line.write(match self {
-            PlayerEnd::Halted => [0, 0],
-            PlayerEnd::Spent => [1, 0],
-            PlayerEnd::Loads => [2, 0],
-            PlayerEnd::Refused(refusal) => [3, refusal.number()],
-            PlayerEnd::Stopped => [4, 0],
-        })
+    fn to_numbers(self, line: &mut Line, at: usize) -> usize {
+        line.write(
+            at,
+            match self {
+                PlayerEnd::Halted => [0, 0],
+                PlayerEnd::Spent => [1, 0],
+                PlayerEnd::Loads => [2, 0],
+                PlayerEnd::Refused(refusal) => [3, refusal.number()],
+                PlayerEnd::Stopped => [4, 0],
+            },
+        )
     }
 }
 
@@ -58,16 +64,16 @@ impl Report {
 }
 
 impl ToNumbers for Report {
-    fn to_numbers(self, line: &mut Line) -> Result<(), AllocError> {
-        line.write((self.ran.end, self.ran.ticks))?;
-        line.write((self.requests, self.ran.state))
+    fn to_numbers(self, line: &mut Line, at: usize) -> usize {
+        let at = line.write(at, (self.ran.end, self.ran.ticks));
+        line.write(at, (self.requests, self.ran.state))
     }
 }
 
 // `as`, since the library has no `From` of `usize` for 64 bits.
 impl ToNumbers for Played {
-    fn to_numbers(self, line: &mut Line) -> Result<(), AllocError> {
-        line.write((self.end, self.done))?;
-        line.write((low_word(self.used as u64), self.values))
+    fn to_numbers(self, line: &mut Line, at: usize) -> usize {
+        let at = line.write(at, (self.end, self.done));
+        line.write(at, (low_word(self.used as u64), self.values))
     }
 }

@@ -5,7 +5,6 @@ use pipeline::{Given, PipelineCpu};
 use sheet::Inputs;
 use sheet::offer::offer_at;
 use sheet::specials::special_at;
-use std::alloc::AllocError;
 
 // What the hash begins with.
 const HASH_OF_NONE: u32 = 2166136261;
@@ -22,8 +21,8 @@ fn numbers_of(request: Request) -> [u32; 4] {
 }
 
 impl ToNumbers for Option<Request> {
-    fn to_numbers(self, line: &mut Line) -> Result<(), AllocError> {
-        line.write(self.map_or([0; 4], numbers_of))
+    fn to_numbers(self, line: &mut Line, at: usize) -> usize {
+        line.write(at, self.map_or([0; 4], numbers_of))
     }
 }
 
@@ -34,8 +33,8 @@ pub struct Requests {
 }
 
 impl ToNumbers for Requests {
-    fn to_numbers(self, line: &mut Line) -> Result<(), AllocError> {
-        line.write((self.count, self.hash))
+    fn to_numbers(self, line: &mut Line, at: usize) -> usize {
+        line.write(at, (self.count, self.hash))
     }
 }
 

@@ -4,7 +4,6 @@ use crate::numbers::{FromNumbers, Malformed, Numbers};
 use isa::{Place, Start};
 use pipeline::{Given, PipelineCpu};
 use stages::{Counters, Stages};
-use std::alloc::AllocError;
 
 impl FromNumbers for Place {
     fn from_numbers(numbers: &mut Numbers<'_>) -> Result<Place, Malformed> {
@@ -16,8 +15,8 @@ impl FromNumbers for Place {
 }
 
 impl ToNumbers for Place {
-    fn to_numbers(self, line: &mut Line) -> Result<(), AllocError> {
-        line.write((self.pc, self.mode))
+    fn to_numbers(self, line: &mut Line, at: usize) -> usize {
+        line.write(at, (self.pc, self.mode))
     }
 }
 
@@ -33,10 +32,10 @@ impl FromNumbers for Start {
 }
 
 impl ToNumbers for Start {
-    fn to_numbers(self, line: &mut Line) -> Result<(), AllocError> {
+    fn to_numbers(self, line: &mut Line, at: usize) -> usize {
         let reg = self.reg;
-        line.write((reg, self.at))?;
-        line.write((self.user, self.features))
+        let at = line.write(at, (reg, self.at));
+        line.write(at, (self.user, self.features))
     }
 }
 
@@ -60,12 +59,12 @@ impl FromNumbers for Stages {
 }
 
 impl ToNumbers for Stages {
-    fn to_numbers(self, line: &mut Line) -> Result<(), AllocError> {
-        line.write((self.fetch_at, self.retire_at))?;
-        line.write((self.running, self.user, self.features))?;
-        line.write((self.if_id, self.id_ex))?;
-        line.write((self.ex_mem, self.mem_wb))?;
-        line.write((self.ex_cycles_left, self.ex_armed, self.wait_left))
+    fn to_numbers(self, line: &mut Line, at: usize) -> usize {
+        let at = line.write(at, (self.fetch_at, self.retire_at));
+        let at = line.write(at, (self.running, self.user, self.features));
+        let at = line.write(at, (self.if_id, self.id_ex));
+        let at = line.write(at, (self.ex_mem, self.mem_wb));
+        line.write(at, (self.ex_cycles_left, self.ex_armed, self.wait_left))
     }
 }
 
@@ -82,10 +81,10 @@ impl FromNumbers for Counters {
 }
 
 impl ToNumbers for Counters {
-    fn to_numbers(self, line: &mut Line) -> Result<(), AllocError> {
-        line.write((self.cycles, self.running_cycles))?;
-        line.write(self.instructions_executed)?;
-        line.write((self.stall_cycles, self.flush_events))
+    fn to_numbers(self, line: &mut Line, at: usize) -> usize {
+        let at = line.write(at, (self.cycles, self.running_cycles));
+        let at = line.write(at, self.instructions_executed);
+        line.write(at, (self.stall_cycles, self.flush_events))
     }
 }
 
@@ -100,9 +99,9 @@ impl FromNumbers for PipelineCpu {
 }
 
 impl ToNumbers for PipelineCpu {
-    fn to_numbers(self, line: &mut Line) -> Result<(), AllocError> {
+    fn to_numbers(self, line: &mut Line, at: usize) -> usize {
         let reg = self.reg;
-        line.write((reg, self.stages, self.counts))
+        line.write(at, (reg, self.stages, self.counts))
     }
 }
 

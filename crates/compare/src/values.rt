@@ -2,7 +2,6 @@
 use crate::conversions::{low_half, low_word};
 use crate::line::{Line, ToNumbers};
 use crate::numbers::{FromNumbers, Malformed, Numbers};
-use std::alloc::AllocError;
 
 // Nothing.
 impl FromNumbers for () {
@@ -29,8 +28,8 @@ impl OneNumber for u8 {}
 impl OneNumber for u16 {}
 
 impl<T: OneNumber> ToNumbers for T {
-    fn to_numbers(self, line: &mut Line) -> Result<(), AllocError> {
-        line.push(self.into())
+    fn to_numbers(self, line: &mut Line, at: usize) -> usize {
+        line.push(at, self.into())
     }
 }
 
@@ -64,9 +63,9 @@ impl FromNumbers for u64 {
 }
 
 impl ToNumbers for u64 {
-    fn to_numbers(self, line: &mut Line) -> Result<(), AllocError> {
-        line.push(low_word(self >> 32))?;
-        line.push(low_word(self))
+    fn to_numbers(self, line: &mut Line, at: usize) -> usize {
+        let at = line.push(at, low_word(self >> 32));
+        line.push(at, low_word(self))
     }
 }
 
@@ -79,17 +78,20 @@ impl FromNumbers for usize {
 }
 
 impl ToNumbers for usize {
-    fn to_numbers(self, line: &mut Line) -> Result<(), AllocError> {
-        line.write(self as u64)
+    fn to_numbers(self, line: &mut Line, at: usize) -> usize {
+        line.write(at, self as u64)
     }
 }
 
 impl<const N: usize> FromNumbers for [u32; N] {
     fn from_numbers(numbers: &mut Numbers<'_>) -> Result<[u32; N], Malformed> {
         let mut words = [0; N];
+        // A copy stays in the processor's registers.
+        let mut left = *numbers;
         for word in &mut words {
-            *word = numbers.number()?;
+            *word = left.number()?;
         }
+        *numbers = left;
         Ok(words)
     }
 }
@@ -106,29 +108,32 @@ impl<const N: usize> FromNumbers for [u8; N] {
 }
 
 impl<const N: usize> ToNumbers for [u8; N] {
-    fn to_numbers(self, line: &mut Line) -> Result<(), AllocError> {
+    fn to_numbers(self, line: &mut Line, at: usize) -> usize {
+        let mut at = at;
         for word in self.chunks_exact(4) {
-            line.push(u32::from_be_bytes([word[0], word[1], word[2], word[3]]))?;
+            at = line.push(at, u32::from_be_bytes([word[0], word[1], word[2], word[3]]));
         }
-        Ok(())
+        at
     }
 }
 
 impl<const N: usize> ToNumbers for [u32; N] {
-    fn to_numbers(self, line: &mut Line) -> Result<(), AllocError> {
+    fn to_numbers(self, line: &mut Line, at: usize) -> usize {
+        let mut at = at;
         for word in self {
-            line.push(word)?;
+            at = line.push(at, word);
         }
-        Ok(())
+        at
     }
 }
 
 impl<const N: usize> ToNumbers for [u16; N] {
-    fn to_numbers(self, line: &mut Line) -> Result<(), AllocError> {
+    fn to_numbers(self, line: &mut Line, at: usize) -> usize {
+        let mut at = at;
         for half in self {
-            line.write(half)?;
+            at = line.write(at, half);
         }
-        Ok(())
+        at
     }
 }
 
@@ -140,9 +145,9 @@ impl<A: FromNumbers, B: FromNumbers> FromNumbers for (A, B) {
 }
 
 impl<A: ToNumbers, B: ToNumbers> ToNumbers for (A, B) {
-    fn to_numbers(self, line: &mut Line) -> Result<(), AllocError> {
-        line.write(self.0)?;
-        line.write(self.1)
+    fn to_numbers(self, line: &mut Line, at: usize) -> usize {
+        let at = line.write(at, self.0);
+        line.write(at, self.1)
     }
 }
 
@@ -153,9 +158,9 @@ impl<A: FromNumbers, B: FromNumbers, C: FromNumbers> FromNumbers for (A, B, C) {
 }
 
 impl<A: ToNumbers, B: ToNumbers, C: ToNumbers> ToNumbers for (A, B, C) {
-    fn to_numbers(self, line: &mut Line) -> Result<(), AllocError> {
-        line.write(self.0)?;
-        line.write(self.1)?;
-        line.write(self.2)
+    fn to_numbers(self, line: &mut Line, at: usize) -> usize {
+        let at = line.write(at, self.0);
+        let at = line.write(at, self.1);
+        line.write(at, self.2)
     }
 }

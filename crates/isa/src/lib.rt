@@ -14,8 +14,8 @@
 // - Decoded::waits: 16 for a divide; a wait for DIV and none for MOD.
 // - ShortInstruction::decode_short: LDI at nibble 10; JAL's offset unsigned.
 // - RawInstr::decoded: halfword F001 as Unknown; NOP for every Normal instruction.
-// - Decoded::operands: LDIL with no source (ldil_without_source); a latency of 4 for MUL (mul_latency_4);
-//   short ST with its operands exchanged (short_st_operands_swapped).
+// - Decoded::operands: LDIL with no source (ldil_without_source); a latency of 4 for MUL (mul_latency_4); one of 1 for ADD
+//   (add_latency_1); short ST with its operands exchanged (short_st_operands_swapped).
 // - is_dest_in_bounds: 32 in bounds; out of bounds where no destination is named.
 // - Operands::in_bounds: the destination not tested; a source tested only where `n_srcs` counts it.
 // - Instruction::in_bounds: its first source alone tested; false for MFSR.

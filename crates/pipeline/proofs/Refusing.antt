@@ -1,5 +1,5 @@
 -- The refusals that the code computes are those of the definitions' tests. Assumes nothing.
-use mathlib.Core.Bool.{Bool, cond, false, not, true}
+use mathlib.Core.Bool.{Bool, ◌||◌, cond, false, not, true}
 use mathlib.Core.Path.{◌∙◌, ◌≡◌, ap, refl, sym}
 use Rattle.std.specs.Prelude.{ℕ, Err, Ok, Option, Result, is_some, ⊤}
 use Rattle.stages.specs.Counting.{counter_full}
@@ -7,12 +7,13 @@ use Rattle.stages.specs.Refusals.{faulty, faulty_alone, out_of_bounds}
 use Rattle.pipeline.specs.Advance.{next}
 use Rattle.pipeline.specs.Ask.{ask, wanted}
 use Rattle.pipeline.specs.Inner.{tick_on}
-use Rattle.pipeline.specs.Names.{BadAnswer, CounterFull, Faulty, Given, OutOfBounds, PipelineCpu, Place}
-use Rattle.pipeline.specs.Names.{Refusal, Wanted}
+use Rattle.pipeline.specs.Names.{BadAnswer, BadSpecial, BadWait, CounterFull, Faulty, Given, OutOfBounds, PipelineCpu}
+use Rattle.pipeline.specs.Names.{Place, Refusal, Wanted}
 use Rattle.pipeline.specs.Parts.{retired}
 use Rattle.pipeline.specs.Refusals.{Tests, and_then, checked, pass, state_tests, test, verdict}
 use Rattle.pipeline.specs.Retire.{retire}
-use Rattle.pipeline.specs.Tick.{fits_offer, given_tests, ok_offer, same, taken, tests, tick, wanted_tests}
+use Rattle.pipeline.specs.Tick.{bad_wait, fits_offer, fits_special, given_tests, ok_offer, same, taken, tests, tick}
+use Rattle.pipeline.specs.Tick.{wanted_tests}
 
 -- Any list of tests c, before tests d: one that holds refuses, whatever stands behind; none leaves it to d.
 pub tests_refuse : {A : Type 0} (c d : Tests) (x : A) (r : Refusal) → checked c ≡ Err r
@@ -47,6 +48,16 @@ pub given_4 : (fetch : Option Place) (load : Bool) (q : Option ℕ) (t : Given) 
     → Err BadAnswer ≡ checked (given_tests fetch load q t)
 unfolding given_tests verdict
 given_4 fetch load q t k f b ek nk ef nf eb e = rw (sym ek, nk, sym ef, nf, sym eb, e)
+
+-- 10, where 4 does not arise either, and else what is told of the waits
+pub given_10 : (fetch : Option Place) (load : Bool) (q : Option ℕ) (t : Given) (k f b d : Bool) → k ≡ ok_offer t.offer
+    → not k ≡ false → f ≡ fits_offer fetch t.offer → not f ≡ false → b ≡ same load (is_some t.answer) → not b ≡ false
+    → d ≡ fits_special q t.special
+    → cond (not d) (Err BadSpecial)
+    (checked (test (bad_wait (is_some fetch) t.fetch_wait || bad_wait load t.load_wait) BadWait pass))
+    ≡ checked (given_tests fetch load q t)
+unfolding given_tests verdict
+given_10 fetch load q t k f b d ek nk ef nf eb e ed = rw (sym ek, nk, sym ef, nf, sym eb, e, sym ed)
 
 -- where 11, 12 and 13 do not apply no counter is full
 pub state_room : (f : Bool) (s : PipelineCpu) → checked (state_tests f s) ≡ Ok tt → counter_full s.counts ≡ false

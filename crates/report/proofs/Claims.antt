@@ -12,10 +12,10 @@ use Rattle.isa.proofs.Bools.{split}
 use Rattle.report.specs.Ascii.{decimal, digits_in, line, value}
 use Rattle.report.specs.Claims.{Claims}
 use Rattle.report.specs.Names.{BadCommand, BadLength, BadRegister, End, EndRefused, Exception, Faulty, Halted}
-use Rattle.report.specs.Names.{IllegalInstruction, Loads, MemWb, PrivilegedInstruction, Ran, Refusal, Spent}
+use Rattle.report.specs.Names.{IllegalInstruction, Loads, MemWb, Numbered, PrivilegedInstruction, Ran, Refusal, Spent}
 use Rattle.report.specs.Names.{SyscallException}
 use Rattle.report.specs.Refusal.{explained, fault_reason, hex_digit, hex_four, hexadecimal, reason_text, record_text}
-use Rattle.report.specs.Refusal.{refusal_by, refusal_of, refusal_text}
+use Rattle.report.specs.Refusal.{numbered_by, refusal_by, refusal_of, refusal_text, with_reason}
 use Rattle.report.specs.Text.{count_lines, end_line, register_line, register_lines, report_text}
 use Rattle.sheet.specs.Sheet.{first_refused}
 
@@ -40,6 +40,7 @@ end_length Halted = omega arith
 end_length Spent = omega arith
 end_length (EndRefused r) = line_length (codes "end refused") (number_of r)
 end_length Loads = omega arith
+end_length (Numbered n) = line_length (codes "end refused") n
 
 register_length : (k v : ℕ) → length (register_line k v) ≤ 43
 unfolding register_line
@@ -106,12 +107,18 @@ refusal_length BadLength first m = omega arith
 refusal_length Faulty first m = explained_length m.pc Faulty _ (fault_length m.exception m.iret)
 refusal_length r first m = number_length _
 
+numbered_length : (r : Option Refusal) (n first : ℕ) (m : MemWb) → length (numbered_by r n first m) ≤ 139
+unfolding numbered_by
+numbered_length None n first m = number_length n
+numbered_length (Some r) n first m = refusal_length r first m
+
 short_refusal_lem : (e : End) (sheet : List ℕ) (m : MemWb) → length (refusal_text e sheet m) ≤ 139
 unfolding refusal_text
 short_refusal_lem Halted sheet m = omega arith
 short_refusal_lem Spent sheet m = omega arith
 short_refusal_lem (EndRefused r) sheet m = refusal_length r (first_refused sheet 0 4096 * 4) m
 short_refusal_lem Loads sheet m = omega arith
+short_refusal_lem (Numbered n) sheet m = numbered_length (with_reason n) n (first_refused sheet 0 4096 * 4) m
 
 pub claims : Claims
 unfolding number_of line value decimal digits_in end_line register_line register_lines count_lines report_text hex_digit hex_four

@@ -6,6 +6,7 @@ pub use Rattle.refusal.specs.declared.Refusal.{Refusal}
 pub use Rattle.refusal.specs.declared.Refusal.TheVariants.{BadRegister, BadCommand, BadLength, Faulty}
 pub use Rattle.sheet.specs.declared.End.{End}
 pub use Rattle.sheet.specs.declared.End.TheVariants.{Halted, Spent, Refused as EndRefused, Loads}
+pub use Rattle.sheet.specs.declared.End.TheVariants.{Numbered}
 pub use Rattle.latch.specs.declared.MemWb.{MemWb}
 pub use Rattle.stages.specs.declared.Stages.{Stages}
 pub use Rattle.runs.specs.declared.Ran.{Ran}

@@ -1,9 +1,9 @@
 -- What tickrun says on standard error: nothing, or of a refused run which record it was and why.
-use Rattle.std.specs.Prelude.{◌%◌, ◌*◌, ◌+◌, ◌/◌, ℕ, nat_lt, Bool, codes, cond, List, [], ◌++◌, ◌∷◌, Option, None, Some}
+use Rattle.std.specs.Prelude.{◌%◌, ◌*◌, ◌+◌, ◌/◌, ℕ, ◌==◌, nat_lt, Bool, codes, cond, List, [], ◌++◌, ◌∷◌, Option, None, Some}
 use Rattle.refusal.specs.Number.{number_of}
 use Rattle.report.specs.Ascii.{decimal, line}
 use Rattle.report.specs.Names.{BadCommand, BadLength, BadRegister, End, EndRefused, Exception, Faulty, Halted}
-use Rattle.report.specs.Names.{IllegalInstruction, Loads, MemWb, PrivilegedInstruction, Ran, Refusal, Spent}
+use Rattle.report.specs.Names.{IllegalInstruction, Loads, MemWb, Numbered, PrivilegedInstruction, Ran, Refusal, Spent}
 use Rattle.report.specs.Names.{SyscallException}
 use Rattle.sheet.specs.Sheet.{first_refused}
 
@@ -48,12 +48,27 @@ refusal_by BadLength first m =
 refusal_by Faulty first m = explained m.pc Faulty (fault_reason m.exception m.iret)
 refusal_by r first m = line (codes "tickrun: refused") (number_of r)
 
+-- the refusals that have a reason beside their number, by it
+unfoldable pub with_reason : ℕ → Option Refusal
+with_reason n =
+    cond (n == 1) (Some BadRegister)
+    (cond (n == 5) (Some BadCommand)
+    (cond (n == 6) (Some BadLength)
+    (cond (n == 12) (Some Faulty)
+    None)))
+
+-- the same of a refusal that is told by its number n, by its reason if it has one
+unfoldable pub numbered_by : Option Refusal → ℕ → ℕ → MemWb → List ℕ
+numbered_by None n first m = line (codes "tickrun: refused") n
+numbered_by (Some r) n first m = refusal_by r first m
+
 -- by the run's end; a sheet that is not too long has at most 4,096 records
 unfoldable pub refusal_text : End → List ℕ → MemWb → List ℕ
 refusal_text Halted sheet m = []
 refusal_text Spent sheet m = []
 refusal_text (EndRefused r) sheet m = refusal_by r (first_refused sheet 0 4096 * 4) m
 refusal_text Loads sheet m = []
+refusal_text (Numbered n) sheet m = numbered_by (with_reason n) n (first_refused sheet 0 4096 * 4) m
 
 -- of a run of a sheet
 unfoldable pub refusal_of : Ran → List ℕ → List ℕ

@@ -2,7 +2,7 @@
 use Rattle.std.specs.Prelude.{suc, zero, ℕ, ◌==◌, slice_index, codes, cond, List, [], ◌++◌}
 use Rattle.refusal.specs.Number.{number_of}
 use Rattle.report.specs.Ascii.{decimal, line}
-use Rattle.report.specs.Names.{End, EndRefused, Halted, Loads, Ran, Spent}
+use Rattle.report.specs.Names.{End, EndRefused, Halted, Loads, Numbered, Ran, Spent}
 
 -- how the run ended
 unfoldable pub end_line : End → List ℕ
@@ -10,6 +10,7 @@ end_line Halted = codes "end halted\n"
 end_line Spent = codes "end spent\n"
 end_line (EndRefused r) = line (codes "end refused") (number_of r)
 end_line Loads = codes "end loads\n"
+end_line (Numbered n) = line (codes "end refused") n
 
 -- register k with its value v; none for 0
 unfoldable pub register_line : ℕ → ℕ → List ℕ

@@ -1,9 +1,10 @@
 // What tickrun prints: a run's report and, of a refused one, which record it was and why; each into a lent buffer.
 //
 // Wrong programs that the promises rule out:
-// - write: R31 never written; the stalls for the flushes; `end spend`; 12 for the number of every refusal; a byte behind
-//   the text changed.
-// - explain: a record counted as five addresses; the reason of 5 for 1.
+// - write: R31 never written; the stalls for the flushes; `end spend`; 12 for the number of every refusal; a number above
+//   255 cut to a byte (number_cut_to_a_byte); a byte behind the text changed.
+// - explain: a record counted as five addresses; the reason of 5 for 1; nothing for a number that names no refusal
+//   (told_by_reason_alone).
 #![tactic(auto)]
 
 ghost use Rattle.std.specs.Prelude.{◌≡◌, ◌≤◌, length};

@@ -16,6 +16,7 @@ pub(crate) fn put_end(text: &mut Text, end: End)
         End::Spent => text.put(b"end spent\n"),
         End::Refused(refusal) => text.put_line(b"end refused", u64::from(refusal.number())),
         End::Loads => text.put(b"end loads\n"),
+        End::Numbered(number) => text.put_line(b"end refused", u64::from(number)),
     }
 }
 

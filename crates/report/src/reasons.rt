@@ -1,8 +1,9 @@
 // Which record was refused and why.
-ghost use Rattle.std.specs.Prelude.{◌≡◌};
+ghost use Rattle.std.specs.Prelude.{◌*◌, ◌≡◌};
 ghost use Rattle.report.specs.Inner.{Puts};
 ghost use Rattle.report.specs.Refusal.{explained, fault_reason, hex_digit, hex_four, hexadecimal, reason_text};
-ghost use Rattle.report.specs.Refusal.{record_text, refusal_by, refusal_text};
+ghost use Rattle.report.specs.Refusal.{numbered_by, record_text, refusal_by, refusal_text, with_reason};
+ghost use Rattle.sheet.specs.Sheet.{first_refused};
 
 use crate::Text;
 use isa::Exception;
@@ -115,12 +116,46 @@ fn put_refused(text: &mut Text, refusal: Refusal, first: u32, m: &MemWb)
     }
 }
 
+// The refusals that have a reason beside their number, by it.
+#[tactic(auto, unfolding(crate::specs::Refusal::with_reason))]
+fn with_reason(number: u32) -> Option<Refusal>
+    ensures { result ≡ with_reason number }
+{
+    match number {
+        1 => Some(Refusal::BadRegister),
+        5 => Some(Refusal::BadCommand),
+        6 => Some(Refusal::BadLength),
+        12 => Some(Refusal::Faulty),
+        _ => None,
+    }
+}
+
+// The same by the number of the refusal, which may be any.
+#[tactic(auto, unfolding(crate::specs::Refusal::numbered_by))]
+fn put_numbered(text: &mut Text, number: u32, first: u32, m: &MemWb)
+    ensures { Puts text.old (numbered_by (with_reason number) number first m.now) text.new }
+{
+    match with_reason(number) {
+        Some(refusal) => put_refused(text, refusal, first, m),
+        None => text.put_line(b"tickrun: refused", u64::from(number)),
+    }
+}
+
+// The address of the first refused record.
+fn first_address(sheet: &[u8]) -> u32
+    ensures { result ≡ first_refused sheet.now 0 4096 * 4 }
+{
+    first_refused(sheet, MAX_RECORDS) * 4
+}
+
 // Of a run of a sheet; nothing where it was not refused.
 #[tactic(auto, unfolding(crate::specs::Refusal::refusal_text))]
 pub(crate) fn put_refusal(text: &mut Text, end: End, sheet: &[u8], m: &MemWb)
     ensures { Puts text.old (refusal_text end sheet.now m.now) text.new }
 {
-    if let End::Refused(refusal) = end {
-        put_refused(text, refusal, first_refused(sheet, MAX_RECORDS) * 4, m);
+    match end {
+        End::Refused(refusal) => put_refused(text, refusal, first_address(sheet), m),
+        End::Numbered(number) => put_numbered(text, number, first_address(sheet), m),
+        End::Halted | End::Spent | End::Loads => {}
     }
 }

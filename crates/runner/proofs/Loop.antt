@@ -1,18 +1,18 @@
 -- One turn of the runner's loop. Assumes nothing.
 use Prim.Native.Nat.{◌+◌, ◌-◌, ◌<◌, ◌≤◌, suc, ℕ}
 use lib.ListN.{length}
-use mathlib.Core.Bool.{cond, false, true}
+use mathlib.Core.Bool.{false, true}
 use mathlib.Core.List.{List}
 use mathlib.Core.Path.{◌∙◌, ◌≡◌, ap, sym}
 use native.Mathlib.Omega.{arith}
-use Rattle.std.specs.Prelude.{None, Ok, Some}
+use Rattle.std.specs.Prelude.{None, Ok, Option, Some, unwrap_or}
 use Rattle.isa.proofs.Bools.{split}
 use Rattle.isa.specs.Machine.{Source, first, is_empty}
 use Rattle.pipeline.proofs.Resting.{rest_load, rest_next, waits_rest}
 use Rattle.pipeline.specs.Advance.{next, waiting}
 use Rattle.pipeline.specs.Tick.{taken, tick}
 use Rattle.pipeline.specs.Turn.{reply}
-use Rattle.runs.proofs.Plays.{play_ends, play_goes}
+use Rattle.runs.proofs.Plays.{play_ends, play_goes, play_last, turn_last}
 use Rattle.runs.proofs.Replies.{goes_reply, stays_in}
 use Rattle.runs.proofs.Turns.{turn_ticks}
 use Rattle.runs.specs.Run.{Played, ended, left_after, more, play, reported, run_check, turn_of}
@@ -23,7 +23,7 @@ use Rattle.stages.proofs.Awake.{waits_asleep}
 use Rattle.stages.specs.Advance.{awake, waits_for_memory}
 use Rattle.stages.specs.Refusals.{out_of_bounds}
 use Rattle.runner.specs.Inner.{Holds, Ready, later}
-use Rattle.runner.specs.Names.{End, Given, Halted, PipelineCpu, Spent}
+use Rattle.runner.specs.Names.{End, Given, PipelineCpu, Spent}
 
 -- one tick more, counted before or behind
 later_more : (t : ℕ) (x : Given) (p : Played) → later t (more x p) ≡ later (t + 1) p
@@ -62,15 +62,15 @@ ready s sheet limit e = by_check (limited_check sheet limit)
 
 -- behind the last turn
 pub spent : (src : Source) (limit : ℕ) (l left : List ℕ) (s₀ s : PipelineCpu) (t : ℕ) → Holds src limit l s₀ s left t
-    → t ≤ limit → limit ≤ t → (e : End) → cond s.stages.running Spent Halted ≡ e
-    → record { end = e; ticks = limit; state = s } ≡ reported (play src limit l s₀)
-unfolding play
-spent src limit l left s₀ s t h a b e q =
+    → t ≤ limit → limit ≤ t → (o : Option End) → o ≡ turn_of s.stages s.counts true (is_empty left)
+    → record { end = unwrap_or o Spent; ticks = limit; state = s } ≡ reported (play src limit l s₀)
+spent src limit l left s₀ s t h a b o q =
     let z : t ≡ limit = omega arith in
     let y : limit - limit ≡ 0 = omega arith in
-    sym (h.same ∙ ap (λ (n : ℕ). later n (play src (limit - n) left s)) z
-    ∙ ap (λ (n : ℕ). later limit (play src n left s)) y ∙ ap (λ (x : End). later limit (ended x s)) q
-    ∙ later_ended limit e s)
+    let e = turn_last s (is_empty left) in
+    rw (q ∙ e) (sym (h.same ∙ ap (λ (n : ℕ). later n (play src (limit - n) left s)) z
+    ∙ ap (λ (n : ℕ). later limit (play src n left s)) y
+    ∙ ap (later limit) (play_last src left s (is_empty left) _ e) ∙ later_ended limit _ s))
 
 -- a tick of a wait for the memory takes no answer
 waits_left : (s : PipelineCpu) (l : List ℕ) → awake s.stages ≡ false → l ≡ left_after s l

@@ -2,8 +2,9 @@
 // and the state then out.
 //
 // Wrong programs that the promise of `run` rules out: ticks reported one off; a state after a late refusal that is not
-// the one before the refused tick; 11 before 7; an answer used twice; a halted run reported as spent; a special register
-// looked up in an empty table; a wait for the memory ticked off where the machine does not run, or outside the limit.
+// the one before the refused tick; 11 before 7; an answer used twice; a halted run reported as spent; the last turn told
+// that the limit is not used up (limit_not_told); a special register looked up in an empty table; a wait for the memory
+// ticked off where the machine does not run, or outside the limit.
 #![tactic(auto)]
 
 ghost use Rattle.std.specs.Prelude.{cond, false, true, ◌≡◌};
@@ -98,15 +99,15 @@ fn wait(state: &mut PipelineCpu)
     state.counts = state.counts.count(false, Move::KeepWaiting);
 }
 
-// How a turn below the limit ends the run, if it does.
+// How a turn ends the run, if it does; `spent` says whether the limit is used up.
 #[tactic(auto, unfolding(runs::specs::Run::turn_of, isa::specs::Machine::is_empty))]
-fn next_turn(state: &PipelineCpu, left: &[u32]) -> Option<End>
-    ensures { result ≡ turn_of state.now.stages state.now.counts false (is_empty left.now) }
+fn next_turn(state: &PipelineCpu, spent: bool, left: &[u32]) -> Option<End>
+    ensures { result ≡ turn_of state.now.stages state.now.counts spent (is_empty left.now) }
 {
     let s = state.stages;
     turn_by(
         s.running,
-        false,
+        spent,
         s.is_faulty(),
         state.counts.is_full(),
         s.wants_load() && left.is_empty(),
@@ -124,7 +125,7 @@ fn play(mut state: PipelineCpu, inputs: Inputs<'_>) -> Ran
     let mut reg = state.reg;
     let mut left = inputs.answers;
     for ticks in 0..inputs.limit {
-        if let Some(end) = next_turn(&state, left) {
+        if let Some(end) = next_turn(&state, false, left) {
             state.reg = reg;
             return Ran { end, ticks, state };
         }
@@ -135,11 +136,8 @@ fn play(mut state: PipelineCpu, inputs: Inputs<'_>) -> Ran
         }
     }
     state.reg = reg;
-    let end = if state.stages.running {
-        End::Spent
-    } else {
-        End::Halted
-    };
+    // A turn with the limit used up ends the run.
+    let end = next_turn(&state, true, left).unwrap_or(End::Spent);
     Ran {
         end,
         ticks: inputs.limit,

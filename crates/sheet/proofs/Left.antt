@@ -31,6 +31,13 @@ left_rest [] (suc k) = refl
 left_rest (x ∷ l) zero = refl
 left_rest (x ∷ l) (suc k) = left_rest l k
 
+-- no answer past the last
+pub past_last : (l : List ℕ) (k : ℕ) → length l ≤ k → 0 ≡ get_or l k 0
+past_last [] zero h = refl
+past_last [] (suc k) h = refl
+past_last (x ∷ l) zero h = absurd (omega arith)
+past_last (x ∷ l) (suc k) h = past_last l k (omega arith)
+
 -- behind a load that has an answer, or behind what is no load
 pub left_after_lem : (b : Bool) (l : List ℕ) (k : ℕ) → (b ≡ true → k < length l)
     → cond b (rest (drop k l)) (drop k l) ≡ drop (used_after b k (length l)) l

@@ -1,4 +1,5 @@
 pub mod Fair
+pub mod LastTurn
 pub mod Left
 pub mod Limit
 pub mod Refused

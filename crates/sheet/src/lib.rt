@@ -8,7 +8,7 @@
 // - first_refused: a record with an unused byte not zero passed over; the last refused record.
 // - check_limited: the limit before the length; a limit of 1,000,000 refused.
 // - offer_at: the second halfword of a pair at its first address; a NOP outside the sheet.
-// - turn_by: spent before halted; loads before a faulty instruction.
+// - turn_by: spent before halted; loads where the limit is used up (spent_as_loads); loads before a faulty instruction.
 // - answer_at: the answer before; the last one where none is left.
 // - used_after: one more where nothing is loaded; one more where none is left.
 // - special_at: the neighbour's word (neighbour_register); the last word for a number past the table's end.
@@ -48,11 +48,13 @@ pub struct Inputs<'a> {
 }
 
 // How a run ends. Refused is one of the ends that RULES 18.2 lists, and is reported, printed and compared as one: so a
-// refusal stands here, and not in a `Result` around an end.
+// refusal stands here, and not in a `Result` around an end. No run ends with Numbered: it is a refusal of which only the
+// number is known, and is there to be reported.
 #[derive(Clone, Copy, Debug, PartialEq, Eq)]
 pub enum End {
     Halted,
     Spent,
     Refused(Refusal),
     Loads,
+    Numbered(u32),
 }

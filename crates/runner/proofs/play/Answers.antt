@@ -26,12 +26,7 @@ loop-ticks-preserved c = elim c.if-waits_for_memory.branch [
       (sym c.next_turn.ensures ∙ c.in_default.is) _ w.tick-left.ensures.state)
 ]
 
-pub returns-then-state : goal.returns-then-state
-returns-then-state c =
-    spent _ _ _ _ _ _ _ c.loop-ticks.invariant c.loop-ticks.auto.ticks-end c.loop-ticks-test.false _
-    (rw c.if-state.true)
-
-pub returns-else-state : goal.returns-else-state
-returns-else-state c =
-    spent _ _ _ _ _ _ _ c.loop-ticks.invariant c.loop-ticks.auto.ticks-end c.loop-ticks-test.false _
-    (rw c.if-state.false)
+pub returns : goal.returns
+returns c =
+    rw c.unwrap_or-end.ensures (spent _ _ _ _ _ _ _ c.loop-ticks.invariant c.loop-ticks.auto.ticks-end
+    c.loop-ticks-test.false _ c.next_turn-2.ensures)

@@ -1,7 +1,0 @@
--- The first refused record is one of 4,096, so its address is a word.
-use Rattle.std.proofs.Common.{arith}
-use Rattle.sheet.proofs.Fair.{first_le}
-use Rattle.report.proofs.reasons.put_refusal.Goals as goal
-
-pub overflow_mul-first_refused : goal.overflow_mul-first_refused
-overflow_mul-first_refused c = omega (arith, first_le c.args.sheet.now 0 4096)
